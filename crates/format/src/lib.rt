@@ -1,3 +1,5 @@
+pub mod found;
+
 ghost use Rattle.format.specs.Laws.{Deltas-read-back, Points-read-back, Entries-read-back, Ranks-found-again, Movement-follows, Accepted-calls-fix-the-glyphs};
 ghost use mathlib.Core.Path.{_≡_};
 ghost use Rattle.format.specs.Promise.{Required-movements-agree, Every-compile-keeps};

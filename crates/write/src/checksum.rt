@@ -46,7 +46,8 @@ impl Checksum {
     pub fn sum(&self) -> u32
         ensures { λ r. ⌜ r ≡ now (self .entry) .sum ⌝ }
     {
-        self.sum
+        let Checksum { sum, .. } = self;
+        *sum
     }
 }
 

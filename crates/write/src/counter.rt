@@ -29,7 +29,8 @@ impl Counter {
     pub fn count(&self) -> usize
         ensures { λ r. ⌜ r ≡ now (self .entry) .taken ⌝ }
     {
-        self.taken
+        let Counter { taken, .. } = self;
+        *taken
     }
 }
 
