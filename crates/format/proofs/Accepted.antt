@@ -1,4 +1,4 @@
--- The glyphs of the account come from the accepted calls alone. Assumes nothing.
+-- The glyphs of the account come from the accepted calls alone.
 use mathlib.Core.Path.{_≡_, refl}
 use mathlib.Core.List.{List, [], _∷_}
 use mathlib.Core.Option.{Option, none, some}

@@ -1,4 +1,4 @@
--- How many numbers below n pass a test, and the least that does. Assumes nothing.
+-- How many numbers below n pass a test, and the least that does.
 use mathlib.Core.Path.{_≡_, refl, sym, ap, _∙_}
 use mathlib.Core.Bool.{Bool, true, false, cond, _&&_}
 use mathlib.Core.Logic.{_⊎_, inl, inr}

@@ -1,4 +1,4 @@
--- Reading deltas stays inside the bytes, and finds as many as asked for. Assumes nothing.
+-- Reading deltas stays inside the bytes, and finds as many as asked for.
 use mathlib.Core.Path.{_≡_, refl}
 use mathlib.Core.List.{List, [], _∷_, _++_}
 use mathlib.Core.Option.{Option, none, some}

@@ -1,4 +1,4 @@
--- Headers and entries are read back as lists. Assumes nothing.
+-- Headers and entries are read back as lists.
 use mathlib.Core.Path.{_≡_, refl, ap}
 use mathlib.Core.Bool.{false, _&&_, not}
 use mathlib.Core.List.{List, [], _∷_, _++_, map, append-assoc}

@@ -1,4 +1,4 @@
--- Entries, whatever the bytes: each is well formed, and each fault says what it is. Assumes nothing.
+-- Entries, whatever the bytes: each is well formed, and each fault says what it is.
 use mathlib.Core.Path.{_≡_, refl, ap, sym, subst, _∙_}
 use mathlib.Core.Bool.{Bool, true, false, cond, _&&_, not}
 use mathlib.Core.List.{List, [], _∷_, map}

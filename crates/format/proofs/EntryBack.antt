@@ -1,4 +1,4 @@
--- One variation of a glyph: its header and its entry are read back. Assumes nothing.
+-- One variation of a glyph: its header and its entry are read back.
 use mathlib.Core.Path.{_≡_, refl, ap, _∙_, subst}
 use mathlib.Core.Bool.{Bool, true, false, _&&_, not}
 use mathlib.Core.List.{List, _++_, map}

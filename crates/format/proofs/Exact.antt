@@ -1,4 +1,4 @@
--- Fractions are exact: denominators are what is divided by, and a few movements worked by hand. Assumes nothing.
+-- Fractions are exact: denominators are what is divided by, and a few movements worked by hand.
 use mathlib.Core.Path.{_≡_, refl, sym, ap, _∙_}
 use mathlib.Core.Bool.{true, false}
 use mathlib.Core.List.{[], _∷_}

@@ -1,4 +1,4 @@
--- Faults of a slot say what they are, and so does the first condition that applies. Assumes nothing.
+-- Faults of a slot say what they are, and so does the first condition that applies.
 use mathlib.Core.Path.{_≡_, refl, sym, subst}
 use mathlib.Core.Bool.{Bool, true, false, cond}
 use mathlib.Core.List.{List, [], _∷_}

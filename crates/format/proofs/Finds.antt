@@ -1,4 +1,4 @@
--- The points and deltas that a variation stores: every required point is found, each found one as handed in, and they rise. Assumes nothing.
+-- The points and deltas that a variation stores: every required point is found, each found one as handed in, and they rise.
 use mathlib.Core.Path.{_≡_, refl, sym, ap, _∙_, subst}
 use mathlib.Core.Bool.{Bool, true, false, cond}
 use mathlib.Core.List.{List, [], _∷_, map}

@@ -1,4 +1,4 @@
--- Items are read off the front: which bytes they use, how many items there are, and when there are enough bytes. Assumes nothing.
+-- Items are read off the front: which bytes they use, how many items there are, and when there are enough bytes.
 use mathlib.Core.Path.{_≡_, refl, ap}
 use mathlib.Core.Bool.{Bool, true, false, cond}
 use mathlib.Core.List.{List, [], _∷_, _++_}

@@ -1,4 +1,4 @@
--- The runs of gaps of a rising list of points are read back. Assumes nothing.
+-- The runs of gaps of a rising list of points are read back.
 use mathlib.Core.Path.{_≡_, refl, sym, ap, _∙_, subst}
 use mathlib.Core.Bool.{Bool, true, false, cond, _&&_}
 use mathlib.Core.List.{List, [], _∷_, _++_, map, append-assoc}

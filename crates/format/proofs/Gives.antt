@@ -1,4 +1,4 @@
--- An entry with a variation's header and data gives the variation back. Assumes nothing.
+-- An entry with a variation's header and data gives the variation back.
 use mathlib.Core.Path.{_≡_, refl, _∙_}
 use mathlib.Core.Bool.{Bool, true, false, cond}
 use mathlib.Core.List.{List, [], _∷_, _++_, map}

@@ -1,4 +1,4 @@
--- What a granted compile says: none of its conditions applies. Assumes nothing.
+-- What a granted compile says: none of its conditions applies.
 use mathlib.Core.Path.{_≡_, refl}
 use mathlib.Core.Bool.{true}
 use mathlib.Core.List.{List, [], _∷_}

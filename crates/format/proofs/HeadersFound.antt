@@ -1,4 +1,4 @@
--- Headers, whatever the bytes: each holds tuples of the axes, and its place is inside. Assumes nothing.
+-- Headers, whatever the bytes: each holds tuples of the axes, and its place is inside.
 use mathlib.Core.Path.{_≡_, refl, ap}
 use mathlib.Core.Bool.{Bool, true, false, cond, _&&_, not}
 use mathlib.Core.List.{List, [], _∷_}

@@ -1,4 +1,4 @@
--- A stream stays inside its bytes: at once, and after bytes that stand before it. Assumes nothing.
+-- A stream stays inside its bytes: at once, and after bytes that stand before it.
 use mathlib.Core.Path.{_≡_, refl, ap, subst, _∙_}
 use mathlib.Core.List.{List, [], _∷_, _++_, append-assoc}
 use Prim.Native.Nat.{ℕ, _+_}

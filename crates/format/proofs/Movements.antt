@@ -1,4 +1,4 @@
--- Where each entry gives its variation back, required points move alike, and so the two accounts of a glyph agree. Assumes nothing.
+-- Where each entry gives its variation back, required points move alike, and so the two accounts of a glyph agree.
 use mathlib.Core.Path.{_≡_, refl, sym}
 use mathlib.Core.List.{List, [], _∷_}
 use mathlib.Core.Option.{some}

@@ -1,4 +1,4 @@
--- The offsets and the slots of a table are found again. Assumes nothing.
+-- The offsets and the slots of a table are found again.
 use mathlib.Core.Path.{_≡_, refl, ap}
 use mathlib.Core.Bool.{Bool, true, false}
 use mathlib.Core.List.{List, [], _∷_, _++_, map}

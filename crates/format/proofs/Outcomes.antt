@@ -1,4 +1,4 @@
--- What holds of a reading's outcome, either of what is found or of the fault, part by part. Assumes nothing.
+-- What holds of a reading's outcome, either of what is found or of the fault, part by part.
 use mathlib.Core.Path.{_≡_, refl, subst}
 use mathlib.Core.Bool.{Bool, true, false, cond}
 use mathlib.Core.Option.{Option, none, some}

@@ -1,4 +1,4 @@
--- A shared peak stands at its index. Assumes nothing.
+-- A shared peak stands at its index.
 use mathlib.Core.Path.{_≡_, refl, sym, ap, _∙_, subst}
 use mathlib.Core.Bool.{Bool, true, false, cond, _&&_}
 use mathlib.Core.List.{List, [], _∷_, map}

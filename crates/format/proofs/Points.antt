@@ -1,4 +1,4 @@
--- Packed points are read back, with a count of one byte or of two. Assumes nothing.
+-- Packed points are read back, with a count of one byte or of two.
 use mathlib.Core.Path.{_≡_, refl, ap, _∙_}
 use mathlib.Core.Bool.{Bool, true, false, cond}
 use mathlib.Core.List.{List, [], _∷_, _++_, map}

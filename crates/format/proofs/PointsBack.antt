@@ -1,4 +1,4 @@
--- Every set of points in range is read back. Assumes nothing.
+-- Every set of points in range is read back.
 use mathlib.Core.Path.{_≡_, refl}
 use mathlib.Core.List.{List, _++_}
 use Prim.Native.Nat.{ℕ, _+_, _≤_}

@@ -1,4 +1,4 @@
--- Reading points stays inside the bytes, and finds points in range. Assumes nothing.
+-- Reading points stays inside the bytes, and finds points in range.
 use mathlib.Core.Path.{_≡_, refl}
 use mathlib.Core.Bool.{true, cond, _&&_, not}
 use mathlib.Core.List.{List, [], _∷_, _++_}

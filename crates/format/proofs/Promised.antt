@@ -1,4 +1,4 @@
--- The main promise: what every compile keeps, after every list of calls. Assumes nothing.
+-- The main promise: what every compile keeps, after every list of calls.
 use mathlib.Core.Path.{_≡_, refl, sym, ap, _∙_, subst}
 use mathlib.Core.List.{List, _∷_}
 use Prim.Native.Nat.{ℕ, _≤_}

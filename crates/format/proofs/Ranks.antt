@@ -1,4 +1,4 @@
--- Ranks of classes: they tell classes apart, and are the numbers below the number of classes. Assumes nothing.
+-- Ranks of classes: they tell classes apart, and are the numbers below the number of classes.
 use mathlib.Core.Path.{_≡_, refl}
 use mathlib.Core.Bool.{Bool, true, false, _&&_}
 use Prim.Native.Nat.{ℕ, _<_}

@@ -1,4 +1,4 @@
--- What every reachable account keeps. Assumes nothing.
+-- What every reachable account keeps.
 use mathlib.Core.Path.{_≡_, refl, sym, _∙_, subst}
 use mathlib.Core.Bool.{Bool, true, false, cond, not}
 use mathlib.Core.List.{List, [], _∷_, _++_, map}

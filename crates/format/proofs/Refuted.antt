@@ -1,4 +1,4 @@
--- The promise can be kept, and a wrong table, answer or sink breaks it: one set, by computation. Assumes nothing.
+-- The promise can be kept, and a wrong table, answer or sink breaks it: one set, by computation.
 use mathlib.Core.Path.{_≡_, refl, sym, ap, _∙_, subst}
 use mathlib.Core.Bool.{true}
 use mathlib.Core.List.{List, [], _∷_, _++_}

@@ -1,4 +1,4 @@
--- Packed deltas are read back: any lawful cut into runs is, and the cut is lawful. Assumes nothing.
+-- Packed deltas are read back: any lawful cut into runs is, and the cut is lawful.
 use mathlib.Core.Path.{_≡_, refl, ap, _∙_}
 use mathlib.Core.Bool.{Bool, true, false, cond}
 use mathlib.Core.List.{List, [], _∷_, _++_, map, append-assoc}

@@ -1,4 +1,4 @@
--- A granted set: its table fits its fields, and the two accounts of each of its glyphs agree. Assumes nothing.
+-- A granted set: its table fits its fields, and the two accounts of each of its glyphs agree.
 use mathlib.Core.Path.{_≡_, refl, sym, ap, _∙_, subst}
 use mathlib.Core.Bool.{Bool, true, false, _||_}
 use mathlib.Core.List.{List, [], _∷_, _++_}

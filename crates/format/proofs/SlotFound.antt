@@ -1,4 +1,4 @@
--- A slot, whatever its bytes: what is found in it is well formed, and each fault says what it is. Assumes nothing.
+-- A slot, whatever its bytes: what is found in it is well formed, and each fault says what it is.
 use mathlib.Core.Path.{_≡_, refl}
 use mathlib.Core.Bool.{Bool, true, false, _||_}
 use mathlib.Core.List.{List, [], _∷_, _++_}

@@ -1,4 +1,4 @@
--- The parts of a slot put together: count word, data offset, headers, shared points, data, pad. Assumes nothing.
+-- The parts of a slot put together: count word, data offset, headers, shared points, data, pad.
 use mathlib.Core.Path.{_≡_, refl, ap, subst}
 use mathlib.Core.Bool.{Bool, true, false, cond, _&&_, not}
 use mathlib.Core.List.{List, [], _∷_, _++_}

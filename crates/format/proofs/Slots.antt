@@ -1,4 +1,4 @@
--- A slot is read back: the bytes of a glyph, padded or not, give an entry for each variation, in their order, that gives it back. Assumes nothing.
+-- A slot is read back: the bytes of a glyph, padded or not, give an entry for each variation, in their order, that gives it back.
 use mathlib.Core.Path.{_≡_, refl, sym, ap, _∙_, subst}
 use mathlib.Core.Bool.{Bool, true, false, _&&_, not}
 use mathlib.Core.List.{List, [], _∷_, _++_, map, append-assoc}

@@ -1,4 +1,4 @@
--- A variation's data is read back. Assumes nothing.
+-- A variation's data is read back.
 use mathlib.Core.Path.{_≡_, refl, sym, ap, _∙_, subst}
 use mathlib.Core.Bool.{Bool, true, false, cond, not, _&&_}
 use mathlib.Core.List.{List, [], _∷_, _++_, append-nil}

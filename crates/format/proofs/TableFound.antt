@@ -1,4 +1,4 @@
--- A table, whatever its bytes: what reading a glyph finds, and what its faults say. Assumes nothing.
+-- A table, whatever its bytes: what reading a glyph finds, and what its faults say.
 use mathlib.Core.Path.{_≡_, subst}
 use mathlib.Core.Bool.{Bool, true, false, cond}
 use mathlib.Core.List.{List}

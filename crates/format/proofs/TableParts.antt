@@ -1,4 +1,4 @@
--- A table that fits its fields: what the reader's check takes from it, and where its parts are. Assumes nothing.
+-- A table that fits its fields: what the reader's check takes from it, and where its parts are.
 use mathlib.Core.Path.{_≡_, refl, sym, ap, _∙_}
 use mathlib.Core.Bool.{Bool, true, false, cond, not}
 use mathlib.Core.List.{List, [], _∷_, _++_, append-assoc}

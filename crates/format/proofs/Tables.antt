@@ -1,4 +1,4 @@
--- A table is read back: its check finds no fault, and each peak and each slot is found as it was written. Assumes nothing.
+-- A table is read back: its check finds no fault, and each peak and each slot is found as it was written.
 use mathlib.Core.Path.{_≡_, refl, sym, ap, subst, _∙_}
 use mathlib.Core.Bool.{Bool, true, false, cond, not}
 use mathlib.Core.List.{List, [], _∷_, _++_}

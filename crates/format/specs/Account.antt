@@ -1,4 +1,4 @@
--- The account of the calls: what a set holds after a list of calls, by what was asked of it. Assumes nothing.
+-- The account of the calls: what a set holds after a list of calls, by what was asked of it.
 use mathlib.Core.Bool.{Bool, true, false, cond, _||_, not}
 use mathlib.Core.List.{List, [], _∷_, _++_, map}
 use mathlib.Core.Option.{Option, none, some}

@@ -1,4 +1,4 @@
--- What reading finds lies inside the bytes and is well formed, and each fault says what it is. Assumes nothing.
+-- What reading finds lies inside the bytes and is well formed, and each fault says what it is.
 use mathlib.Core.Path.{_≡_}
 use mathlib.Core.Bool.{Bool, true, false, cond, _||_}
 use mathlib.Core.List.{List, _++_, map}

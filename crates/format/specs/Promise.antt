@@ -1,5 +1,4 @@
 -- The main promise: between the account of the calls and the account of the compiled bytes, every required movement agrees.
--- Assumes nothing.
 use mathlib.Core.Path.{_≡_}
 use mathlib.Core.Bool.{Bool, true, false}
 use mathlib.Core.List.{List, [], _∷_, _++_, map}

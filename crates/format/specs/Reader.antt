@@ -1,4 +1,4 @@
--- The account of the bytes: what a table says of one glyph, or the first fault in it. Assumes nothing.
+-- The account of the bytes: what a table says of one glyph, or the first fault in it.
 use mathlib.Core.Bool.{Bool, true, false, cond, _&&_, _||_, not}
 use mathlib.Core.List.{List, [], _∷_, _++_, map}
 use mathlib.Core.Option.{Option, none, some}

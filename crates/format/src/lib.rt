@@ -1,7 +1,10 @@
+// The meaning of the format: definitions of what a set, a table and a reading are, and the laws between them.
+pub mod answers;
+pub mod examples;
 pub mod found;
 
-ghost use Rattle.format.specs.Laws.{Deltas-read-back, Points-read-back, Entries-read-back, Ranks-found-again, Movement-follows, Accepted-calls-fix-the-glyphs};
 ghost use mathlib.Core.Path.{_≡_};
+ghost use Rattle.format.specs.Laws.{Deltas-read-back, Points-read-back, Entries-read-back, Ranks-found-again, Movement-follows, Accepted-calls-fix-the-glyphs};
 ghost use Rattle.format.specs.Promise.{Required-movements-agree, Every-compile-keeps};
 ghost use Rattle.format.specs.Worked.{given, wanted};
 
