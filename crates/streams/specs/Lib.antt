@@ -1,0 +1,4 @@
+pub mod Faults
+pub mod Ahead
+pub mod Deltas
+pub mod Points
