@@ -3,10 +3,10 @@ use mathlib.Core.Path.{_≡_, refl, ap, sym, _∙_, fun-ext, subst}
 use mathlib.Core.Bool.{Bool, true, false, cond}
 use mathlib.Core.List.{List, [], _∷_}
 use mathlib.Core.Option.{Option, none, some}
-use Prim.Native.Nat.{ℕ, zero, suc, _+_, _-_, _*_, _%_, _<_, _≤_}
+use Prim.Native.Nat.{ℕ, zero, suc, _+_, _-_, _%_, _<_, _≤_}
 use native.Mathlib.Omega.{arith}
 use native.Mathlib.Nat.{add-zero, zero-add}
-use lib.Dec.{leb, ltb, eqb}
+use lib.Dec.{leb, ltb}
 use lib.IntN.{ℤ, pos}
 use lib.ListN.{length, drop, getD, length-drop}
 use Rattle.std.specs.declared.option.Option.{Option as Maybe}
@@ -22,10 +22,15 @@ use Rattle.streams.specs.declared.deltas.RunKind.the-variants.{OfZeros, OfByte
 use Rattle.streams.specs.declared.deltas.DeltaState.{DeltaState}
 use Rattle.streams.specs.declared.deltas.DeltaState.the-variants.{Between, Zeros, Bytes, Words, Done}
 use Rattle.streams.specs.Ahead.{Ahead, ends, fails, gives, fails-if}
-use Rattle.streams.specs.Deltas.{value-ahead, run-ahead, kind-ahead, control-ahead, runs-ahead, deltas-from, state-ahead, kind-of, kind-in, in-run, run-state}
-use Rattle.streams.proofs.Steps.{Exactly, exact-if, not-ended}
+use Rattle.streams.specs.Deltas.{value-ahead, run-ahead, kind-ahead, control-ahead, runs-ahead, deltas-from, state-ahead, kind-in, in-run, run-state}
+use Rattle.streams.proofs.Steps.{Exactly, not-ended}
 
 -- the format's kind of a run, from the code's
+abbrev pub kind-of : RunKind → Kind
+kind-of OfZeros = zeros
+kind-of OfBytes = bytes
+kind-of OfWords = words
+
 abbrev pub kind-by : Maybe RunKind → Option Kind
 kind-by None = none
 kind-by (Some k) = some (kind-of k)

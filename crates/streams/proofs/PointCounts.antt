@@ -6,7 +6,6 @@ use Prim.Native.Nat.{ℕ, zero, suc, _+_, _-_, _<_, _≤_}
 use native.Mathlib.Omega.{arith}
 use lib.Dec.{leb, ltb, eqb}
 use lib.ListN.{length, drop, getD}
-use Rattle.std.specs.declared.result.Result.{Result}
 use Rattle.std.specs.declared.result.Result.the-variants.{Ok, Err}
 use Rattle.std.proofs.shelf.Tests.{cond-true, cond-false, eq-eqb, ne-eqb, eqb-false, ltb-true, ltb-false, lt-ltb, le-ltb, le-leb, lt-leb}
 use Rattle.std.proofs.shelf.Lists.{drop-more, drop-all}
@@ -14,9 +13,8 @@ use Rattle.format.specs.Account.{Declined}
 use Rattle.format.specs.Bytes.{pair}
 use Rattle.format.specs.Glyphs.{listed}
 use Rattle.format.specs.Packed.{every, only}
-use Rattle.format.specs.Streams.{Rest, rest, Read, found, fault, fault-if, and-then, point-runs, counted-points, long-count, read-points}
+use Rattle.format.specs.Streams.{rest, found, fault-if, and-then, counted-points, long-count, read-points}
 use Rattle.streams.specs.declared.fault.StreamFault.the-variants.{Points}
-use Rattle.streams.specs.declared.points.PointSet.{PointSet}
 use Rattle.streams.specs.Points.{counted, two-byte-count, count-in, by-count, after-count, Past-runs, Set-read}
 use Rattle.streams.proofs.Readings.{after-byte, after-word}
 

@@ -2,17 +2,17 @@
 use mathlib.Core.Path.{_≡_, refl, ap, sym, _∙_, fun-ext, subst}
 use mathlib.Core.Bool.{Bool, true, false, cond, not}
 use mathlib.Core.List.{List, [], _∷_}
-use mathlib.Core.Option.{Option, none, some}
-use Prim.Native.Nat.{ℕ, zero, suc, _+_, _-_, _*_, _%_, _<_, _≤_}
+use mathlib.Core.Option.{none}
+use Prim.Native.Nat.{ℕ, zero, suc, _+_, _-_, _%_, _<_, _≤_}
 use native.Mathlib.Omega.{arith}
 use native.Mathlib.Nat.{zero-add}
 use native.Mathlib.Numerals.{add-one}
-use lib.Dec.{leb, ltb, eqb}
+use lib.Dec.{leb, ltb}
 use lib.ListN.{length, drop, getD, length-drop}
 use Rattle.std.proofs.shelf.Tests.{cond-false, ne-eqb, ltb-false, lt-ltb, le-ltb}
 use Rattle.std.proofs.shelf.Lists.{drop-more, drop-all}
 use Rattle.format.specs.Bytes.{pair}
-use Rattle.format.specs.Streams.{read-gaps, rises, points-after, last-of}
+use Rattle.format.specs.Streams.{read-gaps, rises}
 use Rattle.streams.specs.declared.fault.StreamFault.the-variants.{Points}
 use Rattle.streams.specs.declared.points.PointState.{PointState}
 use Rattle.streams.specs.declared.points.PointState.the-variants.{Between, Bytes, Words, Done}

@@ -9,7 +9,7 @@ use Rattle.format.specs.Account.{Declined}
 use Rattle.format.specs.Streams.{Rest, rest, Read, found, fault, fault-if, and-then}
 use Rattle.streams.specs.declared.fault.StreamFault.{StreamFault}
 use Rattle.streams.specs.Faults.{stream-declined}
-use Rattle.streams.specs.Ahead.{Ahead, ends, fails, gives, give-all, fails-if, one-more, read-ahead}
+use Rattle.streams.specs.Ahead.{Ahead, ends, fails, give-all, fails-if, one-more, read-ahead}
 
 module _ {X : Type 0} where
   -- a whole stream and a faulty one, as readings

@@ -7,12 +7,17 @@ use native.Mathlib.Omega.{arith}
 use lib.ListN.{length}
 use Rattle.std.specs.declared.option.Option.{Option as Maybe}
 use Rattle.std.specs.declared.option.Option.the-variants.{Some, None}
-use Rattle.std.specs.declared.result.Result.{Result}
 use Rattle.std.specs.declared.result.Result.the-variants.{Ok, Err}
 use Rattle.streams.specs.declared.fault.StreamFault.{StreamFault}
 use Rattle.streams.specs.Ahead.{Ahead, ends, fails, gives, answer-of, rest-of, give-all, fails-if}
 
 module _ {X : Type 0} where
+  -- how many values are ahead
+  abbrev pub how-many : Ahead X → ℕ
+  how-many (ends at) = 0
+  how-many (fails f) = 0
+  how-many (gives x a) = suc (how-many a)
+
   -- a value was answered
   pub gave : (a a′ : Ahead X) (o : Maybe X) (x : X) → o ≡ Some x → Ok o ≡ answer-of a → a′ ≡ rest-of a → a ≡ gives x a′
   gave (ends at) a′ o x s e h = cc

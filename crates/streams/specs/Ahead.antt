@@ -1,7 +1,7 @@
 -- What is ahead of a cursor: one value after another, to the stream's end or its fault.
 use mathlib.Core.Bool.{Bool, true, false}
 use mathlib.Core.List.{List, [], _∷_}
-use Prim.Native.Nat.{ℕ, zero, suc}
+use Prim.Native.Nat.{ℕ}
 use lib.ListN.{drop}
 use Rattle.std.specs.declared.option.Option.{Option as Maybe}
 use Rattle.std.specs.declared.option.Option.the-variants.{Some, None}
@@ -39,12 +39,6 @@ give-all (x ∷ xs) a = gives x (give-all xs a)
 abbrev pub fails-if : {X : Type 0} → Bool → StreamFault → Ahead X → Ahead X
 fails-if true f a = fails f
 fails-if false f a = a
-
--- how many values are ahead
-abbrev pub how-many : {X : Type 0} → Ahead X → ℕ
-how-many (ends at) = 0
-how-many (fails f) = 0
-how-many (gives x a) = suc (how-many a)
 
 -- a value in front of what is read
 abbrev pub one-more : {X : Type 0} → X → Read (Rest (List X)) → Read (Rest (List X))

@@ -1,7 +1,7 @@
 -- What is ahead of a cursor over packed deltas.
 use denote.Ref.{now}
 use mathlib.Core.Path.{_≡_}
-use mathlib.Core.Bool.{Bool, true, false, cond}
+use mathlib.Core.Bool.{cond}
 use mathlib.Core.List.{List, [], _∷_}
 use mathlib.Core.Option.{Option, none, some}
 use Prim.Native.Nat.{ℕ, zero, suc, _+_, _-_, _%_}
@@ -14,7 +14,7 @@ use Rattle.std.specs.declared.result.Result.{Result}
 use Rattle.std.specs.declared.result.Result.the-variants.{Ok, Err}
 use Rattle.format.specs.Account.{Declined}
 use Rattle.format.specs.Packed.{Kind, zeros, bytes, words}
-use Rattle.format.specs.Streams.{Rest, rest, Read, found, fault, read-values, run-kind, held, read-deltas}
+use Rattle.format.specs.Streams.{rest, found, fault, read-values, run-kind, held, read-deltas}
 use Rattle.streams.specs.declared.fault.StreamFault.{StreamFault}
 use Rattle.streams.specs.declared.fault.StreamFault.the-variants.{Deltas}
 use Rattle.streams.specs.declared.deltas.RunKind.{RunKind}
@@ -23,7 +23,7 @@ use Rattle.streams.specs.declared.deltas.DeltaState.{DeltaState}
 use Rattle.streams.specs.declared.deltas.DeltaState.the-variants.{Between, Zeros, Bytes, Words, Done}
 use Rattle.streams.specs.declared.deltas.DeltaCursor.{DeltaCursor}
 use Rattle.streams.specs.Faults.{stream-declined}
-use Rattle.streams.specs.Ahead.{Ahead, ends, fails, gives, answer-of, rest-of, give-all, fails-if}
+use Rattle.streams.specs.Ahead.{Ahead, ends, fails, answer-of, rest-of, give-all, fails-if}
 
 -- a value of the run with its control at `control`, if its bytes are there, and what comes after it
 abbrev pub value-ahead : ℕ → Option (List ℤ × List ℕ) → Ahead ℤ → Ahead ℤ
@@ -73,12 +73,6 @@ pub record Delta-step (c : DeltaCursor) (r : Result (Maybe ℤ) StreamFault) (c�
   pub answer : r ≡ answer-of (deltas-ahead c)
   pub ahead : deltas-ahead c′ ≡ rest-of (deltas-ahead c)
   pub same : c′ .table .now ≡ c .table .now
-
--- the kind of a run, in the words of the format
-abbrev pub kind-of : RunKind → Kind
-kind-of OfZeros = zeros
-kind-of OfBytes = bytes
-kind-of OfWords = words
 
 -- the kind of run that a control byte begins; none where both bits are set
 abbrev pub kind-in : ℕ → Maybe RunKind

@@ -8,12 +8,12 @@ use Prim.Native.Nat.{ℕ, zero, suc, _+_, _-_, _*_, _%_}
 use lib.Dec.{leb, ltb, eqb}
 use lib.ListN.{length, drop}
 use Rattle.std.specs.declared.option.Option.{Option as Maybe}
-use Rattle.std.specs.declared.option.Option.the-variants.{Some, None}
+use Rattle.std.specs.declared.option.Option.the-variants.{Some}
 use Rattle.std.specs.declared.result.Result.{Result}
 use Rattle.std.specs.declared.result.Result.the-variants.{Ok, Err}
 use Rattle.format.specs.Account.{Declined}
 use Rattle.format.specs.Bytes.{pair}
-use Rattle.format.specs.Packed.{every, only}
+use Rattle.format.specs.Packed.{every}
 use Rattle.format.specs.Packed.{Points as Point-set}
 use Rattle.format.specs.Streams.{Rest, rest, Read, found, fault, read-gaps, points-after, last-of, rises, point-runs, counted-points, read-points}
 use Rattle.format.specs.Reader.{points-of}
@@ -25,7 +25,7 @@ use Rattle.streams.specs.declared.points.PointCursor.{PointCursor}
 use Rattle.streams.specs.declared.points.PointCount.{PointCount}
 use Rattle.streams.specs.declared.points.PointSet.{PointSet}
 use Rattle.streams.specs.Faults.{stream-declined}
-use Rattle.streams.specs.Ahead.{Ahead, ends, fails, gives, answer-of, rest-of, give-all, fails-if}
+use Rattle.streams.specs.Ahead.{Ahead, ends, fails, answer-of, rest-of, give-all, fails-if}
 
 -- the bytes of n gaps
 abbrev pub gaps-held : Bool → ℕ → ℕ

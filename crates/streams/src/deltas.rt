@@ -82,7 +82,8 @@ impl<'a> DeltaCursor<'a> {
         ensures at { λ r. ⌜ r ≡ now (self .entry) .at ⌝ }
         ensures past { λ r. ⌜ ((past : ℕ) → deltas-ahead (now (self .entry)) ≡ ends past → r ≡ past) ⌝ }
     {
-        self.at
+        let DeltaCursor { at, .. } = self;
+        *at
     }
 
     // The next value, nothing at the end of the stream, or the stream's fault, again at each call.

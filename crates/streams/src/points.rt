@@ -112,7 +112,8 @@ impl<'a> PointCursor<'a> {
         ensures at { λ r. ⌜ r ≡ now (self .entry) .at ⌝ }
         ensures past { λ r. ⌜ ((past : ℕ) → points-ahead (now (self .entry)) ≡ ends past → r ≡ past) ⌝ }
     {
-        self.at
+        let PointCursor { at, .. } = self;
+        *at
     }
 
     // The next point, nothing at the end of the stream, or the stream's fault, again at each call.

@@ -42,12 +42,9 @@ fn gives_points(table: &[u8], p: u16, want: &[u16]) -> Result<(), Fail> {
     )
 }
 
-// A stream at fault, and the place of its fault.
-struct Case<'a> {
-    table: &'a [u8],
-    count: u16,
-    place: usize,
-}
+// A stream of so many deltas, or of points below that number, and the place of its fault.
+#[derive(Clone, Copy)]
+struct Case<'a>(&'a [u8], u16, usize);
 
 #[test]
 fn deltas_are_read() -> Result<(), Fail> {
@@ -66,36 +63,16 @@ fn deltas_are_read() -> Result<(), Fail> {
 #[test]
 fn deltas_at_fault() -> Result<(), Fail> {
     let cases = [
-        Case {
-            table: &[],
-            count: 1,
-            place: 0,
-        },
-        Case {
-            table: &[0xC0],
-            count: 1,
-            place: 0,
-        },
-        Case {
-            table: &[0x01, 5, 5],
-            count: 1,
-            place: 0,
-        },
-        Case {
-            table: &[0x00, 5, 0x01, 5],
-            count: 3,
-            place: 2,
-        },
-        Case {
-            table: &[0x80, 0x40, 5],
-            count: 2,
-            place: 1,
-        },
+        Case(&[], 1, 0),
+        Case(&[0xC0], 1, 0),
+        Case(&[0x01, 5, 5], 1, 0),
+        Case(&[0x00, 5, 0x01, 5], 3, 2),
+        Case(&[0x80, 0x40, 5], 2, 1),
     ];
     for case in &cases {
         check_eq(
-            past_deltas(case.table, 0, case.count),
-            Err(StreamFault::Deltas(case.place)),
+            past_deltas(case.0, 0, case.1),
+            Err(StreamFault::Deltas(case.2)),
         )?;
     }
     check_eq(past_deltas(&[0xFF, 0x01, 5, 5], 1, 2), Ok(4))
@@ -116,56 +93,20 @@ fn points_are_read() -> Result<(), Fail> {
 #[test]
 fn points_at_fault() -> Result<(), Fail> {
     let cases = [
-        Case {
-            table: &[],
-            count: 9,
-            place: 0,
-        },
-        Case {
-            table: &[0x80],
-            count: 9,
-            place: 0,
-        },
-        Case {
-            table: &[0x80, 0x00],
-            count: 9,
-            place: 0,
-        },
-        Case {
-            table: &[0x01],
-            count: 9,
-            place: 1,
-        },
-        Case {
-            table: &[0x01, 0x01, 3, 3],
-            count: 9,
-            place: 1,
-        },
-        Case {
-            table: &[0x02, 0x01, 3],
-            count: 9,
-            place: 1,
-        },
-        Case {
-            table: &[0x02, 0x00, 3, 0x80, 0],
-            count: 9,
-            place: 3,
-        },
-        Case {
-            table: &[0x02, 0x01, 3, 0],
-            count: 9,
-            place: 1,
-        },
-        Case {
-            table: &[0x01, 0x00, 9],
-            count: 9,
-            place: 1,
-        },
+        Case(&[], 9, 0),
+        Case(&[0x80], 9, 0),
+        Case(&[0x80, 0x00], 9, 0),
+        Case(&[0x01], 9, 1),
+        Case(&[0x01, 0x01, 3, 3], 9, 1),
+        Case(&[0x02, 0x01, 3], 9, 1),
+        Case(&[0x02, 0x00, 3, 0x80, 0], 9, 3),
+        Case(&[0x02, 0x01, 3, 0], 9, 1),
+        Case(&[0x01, 0x00, 9], 9, 1),
     ];
     for case in &cases {
         check_eq(
-            past_points(case.table, 0, case.count),
-            Err(StreamFault::Points(case.place)),
+            past_points(case.0, 0, case.1),
+            Err(StreamFault::Points(case.2)),
         )?;
     }
     check_eq(

@@ -1,8 +1,9 @@
 use mathlib.Core.Path.{_≡_}
 use mathlib.Core.List.{List}
 use lib.IntN.{ℤ}
-use Rattle.streams.specs.Ahead.{give-all, how-many}
+use Rattle.streams.specs.Ahead.{give-all}
 use Rattle.streams.specs.Deltas.{deltas-from, deltas-ahead}
+use Rattle.streams.proofs.Steps.{how-many}
 use Rattle.streams.proofs.deltas.past_deltas.Given as given
 
 abbrev pub Inv-loop-v : given.InvT-loop-v

@@ -1,8 +1,9 @@
 use mathlib.Core.Path.{_≡_}
 use mathlib.Core.List.{List}
 use Prim.Native.Nat.{ℕ}
-use Rattle.streams.specs.Ahead.{give-all, how-many}
+use Rattle.streams.specs.Ahead.{give-all}
 use Rattle.streams.specs.Points.{points-from, points-ahead}
+use Rattle.streams.proofs.Steps.{how-many}
 use Rattle.streams.proofs.points.past_runs.Given as given
 
 abbrev pub Inv-loop-q : given.InvT-loop-q

@@ -1,4 +1,4 @@
-use mathlib.Core.Path.{refl, ap, sym, _∙_}
+use mathlib.Core.Path.{ap, sym, _∙_}
 use native.Mathlib.Omega.{arith}
 use Rattle.streams.specs.Points.{after-count}
 use Rattle.streams.proofs.PointCounts.{no-count, short-count, cut-count, zero-count, long-count-is, count-read}

@@ -1,5 +1,4 @@
 use mathlib.Core.Path.{refl, ap, sym, _∙_}
-use native.Mathlib.Omega.{arith}
 use lib.ListN.{getD}
 use Rattle.streams.specs.Ahead.{answer-of, rest-of}
 use Rattle.streams.proofs.DeltaSteps.{gives-byte, lacks-byte}
