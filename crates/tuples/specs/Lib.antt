@@ -1,0 +1,5 @@
+pub mod Choice
+pub mod Tents
+pub mod Headers
+pub mod Data
+pub mod Laws
