@@ -1,0 +1,4 @@
+pub mod Joining
+pub mod Parts
+pub mod Tests
+pub mod Owed
