@@ -1,0 +1,10 @@
+pub mod Refusals
+pub mod Given
+pub mod Index
+pub mod Cells
+pub mod Layout
+pub mod Sound
+pub mod Writing
+pub mod OfSet
+pub mod Rows
+pub mod Views
