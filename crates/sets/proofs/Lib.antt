@@ -10,5 +10,6 @@ mod Entered
 mod Admit
 mod Shown
 mod Full
-mod Shortness
+mod Lying
+pub mod Shortness
 pub mod Peaked

@@ -21,7 +21,7 @@ use Rattle.sets.specs.Cells.{variations-in, deltas-in, blank-variation, start-
 use Rattle.sets.specs.Index.{Apart}
 use Rattle.sets.specs.Layout.{Stores, account-in, dealt, deal, read, tents-of, groups}
 use Rattle.sets.specs.Sound.{Sound}
-use Rattle.sets.specs.Views.{all-variations, no-variation, Spans}
+use Rattle.sets.specs.Views.{all-variations, no-variation, variations-before, Spans}
 use Rattle.sets.proofs.Chains.{seen-not}
 use Rattle.sets.proofs.Deal.{length-deal}
 use Rattle.sets.proofs.Lists.{begun-at}
@@ -184,7 +184,18 @@ group-at n (c ∷ cs) vs (suc p) l e first =
     rw (ne-eqb (c .number) n (λ q. first 0 (omega arith) q), ← drop-drop (variations-in (take p cs)) (c .variations) vs)
     (group-at n cs (drop (c .variations) vs) p (le-of-suc-le-suc l) e (λ g k q. first (suc g) (omega arith) q))
 
-variations-to : (cs : List GlyphCell) (i : ℕ) → i < length cs → variations-in (take i cs) + count-at cs i ≤ variations-in cs
+-- and how many variations stand before them
+group-place : (n : ℕ) (cs : List GlyphCell) (vs : List Variation) (p : ℕ) → p < length cs → variations-in cs ≤ length vs → number-at cs p ≡ n → ((g : ℕ) → g < p → number-at cs g ≡ n → ⊥) →
+    variations-in (take p cs) ≡ variations-before n (groups cs vs)
+group-place n [] vs p l few e first = absurd (not-suc-le-zero l)
+group-place n (c ∷ cs) vs zero l few e first = rw (eq-eqb _ _ e) refl
+group-place n (c ∷ cs) vs (suc p) l few e first =
+    let d = length-drop (c .variations) vs in
+    let t = length-take-le (c .variations) vs (omega arith) in
+    let r = group-place n cs (drop (c .variations) vs) p (le-of-suc-le-suc l) (omega arith) e (λ g k q. first (suc g) (omega arith) q) in
+    rw (ne-eqb (c .number) n (λ q. first 0 (omega arith) q)) (omega arith)
+
+pub variations-to : (cs : List GlyphCell) (i : ℕ) → i < length cs → variations-in (take i cs) + count-at cs i ≤ variations-in cs
 variations-to [] i l = absurd (not-suc-le-zero l)
 variations-to (c ∷ cs) zero l = omega arith
 variations-to (c ∷ cs) (suc i) l = let k = variations-to cs i (le-of-suc-le-suc l) in omega arith
@@ -212,6 +223,10 @@ module _ (s : Stores) (h : Sound s) (d : Apart (number-at (s .glyphs)) (s .begun
       record {
         is-begun = begun-at n (s .begun) (s .glyphs) (dealt s) p (h .within .0) l e;
         few = h .few .0 p l;
+        place =
+            sym f
+            ∙ group-place n used (dealt s) p (omega arith) (omega (arith, h .counted .0, dealt-long s h)) (ap (λ (c : GlyphCell). c .number) (same-at p l) ∙ e)
+            (λ g k q. seen-not (number-at (s .glyphs)) (number-at (s .glyphs) p) p (d p l) g k (ap (λ (c : GlyphCell). c .number) (sym (same-at g (omega arith))) ∙ q ∙ sym e));
         within = omega (arith, h .counted .0);
         of-glyph =
             ap (λ (vs : List Variation). take (count-at (s .glyphs) p) (drop (first-at (s .glyphs) p) vs)) (all-is s h)

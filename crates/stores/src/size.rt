@@ -6,7 +6,7 @@ ghost use lib.ListN.{length};
 ghost use Rattle.format.specs.Account.{Declined, first-of};
 ghost use Rattle.format.specs.Glyphs.{glyph-bytes};
 ghost use Rattle.format.specs.Table.{size-conditions};
-ghost use Rattle.stores.specs.Parts.{all-headers};
+ghost use Rattle.stores.specs.Parts.{all-headers, all-data};
 ghost use Rattle.stores.specs.Sizes.{Store-sized, Data-sized};
 use crate::variations::TupleVariations;
 
@@ -81,4 +81,28 @@ pub fn known_size<T: TupleVariations>(store: &T) -> usize
         Ok(size) => size,
         Err(_) => 0,
     }
+}
+
+// The number of bytes of all data, whether or not each fits.
+fn data_total<T: TupleVariations>(store: &T) -> usize
+    ensures size { λ r. ⌜ r ≡ length (all-data (variations (now (store .entry)))) ⌝ }
+    ensures most { λ r. ⌜ r ≤ 2 ^ 32 ⌝ }
+{
+    let count = store.count();
+    let mut size = 0;
+    for j in 0..count {
+        size += store.data_size(j);
+    }
+    size
+}
+
+// The size of a store, whether or not its parts fit their fields.
+pub fn exact_size<T: TupleVariations>(store: &T) -> usize
+    ensures size { λ r. ⌜ r ≡ length (glyph-bytes (peaks (now (store .entry))) (variations (now (store .entry)))) ⌝ }
+    ensures most { λ r. ⌜ r ≤ 2 ^ 34 ⌝ }
+{
+    if store.count() == 0 {
+        return 0;
+    }
+    4 + headers_size(store) + store.shared_size() + data_total(store)
 }

@@ -45,7 +45,8 @@ pub trait TupleVariations {
     // The number of bytes of a variation's data.
     fn data_size(&self, j: usize) -> usize
         requires { ⌜ j < length (variations (now self)) ⌝ }
-        ensures { λ r. ⌜ r ≡ length (data-in (variations (now (self .entry))) (variation-at (variations (now (self .entry))) j)) ⌝ };
+        ensures size { λ r. ⌜ r ≡ length (data-in (variations (now (self .entry))) (variation-at (variations (now (self .entry))) j)) ⌝ }
+        ensures most { λ r. ⌜ r ≤ 2 ^ 20 ⌝ };
 
     // Hands over a variation's data.
     fn feed_data<S: Sink>(&self, j: usize, sink: &mut S) -> Result<(), SinkError>

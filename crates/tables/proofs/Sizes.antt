@@ -34,7 +34,7 @@ total-next w f n =
     ap (λ (m : ℕ). total (map w (listed 0 m f))) a ∙ total-more w f 0 n n (omega arith)
 
 module _ (gs : List Glyph) where
-  pub summed-more : (n k : ℕ) (s t : Sums) → Summed gs n s → k ≡ length (glyph-at gs n) → k ≤ 536870912 →
+  pub summed-more : (n k : ℕ) (s t : Sums) → Summed gs n s → k ≡ length (glyph-at gs n) → k ≤ 17179869184 →
       t .even ≡ s .even + (k + k % 2) → t .exact ≡ s .exact + k → Summed gs (n + 1) t
   summed-more n k s t h q few e x =
       let even-next = total-next (λ b. even (length b)) (glyph-at gs) n in

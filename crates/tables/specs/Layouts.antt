@@ -16,7 +16,7 @@ pub record Summed (gs : List Glyph) (n : ℕ) (s : Sums) : Type 0 where
   pub evens : s .even ≡ even-total (listed 0 n (glyph-at gs))
   pub exacts : s .exact ≡ total (map length (listed 0 n (glyph-at gs)))
   pub less : s .exact ≤ s .even
-  pub small : s .even ≤ 536870912 * n
+  pub small : s .even ≤ 17179869184 * n
 
 -- the layout of the table of these glyphs: its form, the size of its slots, and that they are not too large
 pub record Laid (gs : List Glyph) (l : Layout) : Type 0 where

@@ -115,7 +115,7 @@ fn is_padded(short: bool, size: usize) -> bool
 fn slot_size<P: TableParts>(parts: &P, short: bool, n: usize) -> usize
     requires { ⌜ n < length (glyphs (now parts)) ⌝ }
     ensures is { λ r. ⌜ r ≡ length (padded short (glyph-at (glyphs (now (parts .entry))) n)) ⌝ }
-    ensures small { λ r. ⌜ r ≤ 536870912 ⌝ }
+    ensures small { λ r. ⌜ r ≤ 17179869184 ⌝ }
 {
     let size = parts.glyph_size(n);
     if is_padded(short, size) {

@@ -36,7 +36,7 @@ pub trait TableParts {
     fn glyph_size(&self, n: usize) -> usize
         requires { ⌜ n < length (glyphs (now self)) ⌝ }
         ensures is { λ r. ⌜ r ≡ length (glyph-at (glyphs (now (self .entry))) n) ⌝ }
-        ensures small { λ r. ⌜ r ≤ 536870912 ⌝ };
+        ensures small { λ r. ⌜ r ≤ 17179869184 ⌝ };
 
     // Hands over the bytes of the glyph n.
     fn feed_glyph<S: Sink>(&self, n: usize, sink: &mut S) -> Result<(), SinkError>

@@ -10,7 +10,7 @@ ghost use Rattle.format.specs.Table.{variation-count, numbers-full};
 ghost use Rattle.variations.specs.Deltas.{deltas-of};
 ghost use Rattle.sets.specs.OfSet.{account-of, glyphs-of};
 ghost use Rattle.sets.specs.Rows.{rows};
-ghost use Rattle.sets.specs.Views.{all-variations, no-variation, Shows, Spans};
+ghost use Rattle.sets.specs.Views.{all-variations, no-variation, Shows, Spans, Lies};
 use super::Set;
 use crate::view::GlyphDeltas;
 use crate::view::Span;
@@ -119,6 +119,18 @@ impl<'a> Set<'a> {
             }
             None => None,
         }
+    }
+
+    // The variations of the glyph at a place, in the order in which the glyphs were begun.
+    pub fn span_at(&self, at: usize) -> Option<Span>
+        ensures { λ r. ⌜ Cases r (length (glyphs-of (now (self .entry))) ≤ at) (λ p. Lies (glyphs-of (now (self .entry))) at p) ⌝ }
+    {
+        if at >= self.glyph_count() {
+            return None;
+        }
+        let first = self.glyphs[at].first;
+        let count = self.glyphs[at].variations as usize;
+        Some(Span { first, count })
     }
 
     // The axis values of all variations. The peak of variation i is the first value for each axis from 3 × axes × i on.

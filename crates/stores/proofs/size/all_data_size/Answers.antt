@@ -13,7 +13,7 @@ returns-then-n-gt-MAX-DATA-SIZE g c =
 pub loop-j-again : need.loop-j-again
 loop-j-again g c =
     let vs = g .T·TupleVariations .variations (c .args .store .now) in (
-      sum-more (data-in vs) vs (c .loop-j .j) (c .loop-j .size) (c .data-size-n .result) _ (omega arith) (c .data-size-n .ensures) (c .loop-j .inv .0),
+      sum-more (data-in vs) vs (c .loop-j .j) (c .loop-j .size) (c .data-size-n .result) _ (omega arith) (c .data-size-n .ensures .size) (c .loop-j .inv .0),
       omega arith,
       λ k cs. c .loop-j .inv .2 k cs ∙ data-within k vs (c .loop-j .j) cs (omega arith) (omega arith),
     )

@@ -1,0 +1,7 @@
+mod Flags
+mod Packed
+mod SharedSets
+mod Views
+mod Marks
+mod Parts
+mod Ranks

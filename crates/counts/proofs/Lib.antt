@@ -1,0 +1,16 @@
+pub mod Classes
+pub mod Steps
+pub mod Walks
+pub mod Adds
+pub mod Blanks
+pub mod RowPlaces
+pub mod Standings
+pub mod Swaps
+pub mod Sinking
+pub mod Sorting
+pub mod Collecting
+pub mod Orders
+pub mod Ranks
+pub mod Marks
+pub mod Parts
+pub mod Led

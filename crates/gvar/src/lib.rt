@@ -1,0 +1,2 @@
+// The compiler of the gvar table.
+pub mod compile;

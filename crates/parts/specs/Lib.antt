@@ -1,0 +1,3 @@
+pub mod Marked
+pub mod OfStore
+pub mod OfParts

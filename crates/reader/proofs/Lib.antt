@@ -1,0 +1,9 @@
+pub mod TableSteps
+pub mod SlotPlaces
+pub mod OpenSteps
+pub mod TupleSteps
+pub mod TupleHolds
+pub mod AheadSteps
+pub mod PointWalkSteps
+pub mod MoveSteps
+pub mod SlotWalkSteps
