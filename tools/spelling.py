@@ -13,9 +13,8 @@ import sys
 
 WORD = r"[^\s(){}\[\].,;:λ\"`|=]+"
 DECLARED = re.compile(
-    r"(?:(?:abbrev|unfoldable|abstract)\s+)?(?:pub\s+)?(?:(record|data|ruleset|abbrev|unfoldable)\s+)?(?:pub\s+)?(" + WORD + r")"
-    r"((?:\s*(?:\{[^}]*\}|\([^()]*(?:\([^()]*\)[^()]*)*\)))*)\s*:(.*)", re.S)
-FIELD = re.compile(r"^\s+(?:pub )?(" + WORD + r")\s*:", re.M)
+    r"\s*(?:(?:abbrev|unfoldable|abstract)\s+)?(?:pub\s+)?(?:(record|data|ruleset|abbrev|unfoldable)\s+)?(?:pub\s+)?(" + WORD + r")"
+    r"((?:\s*(?:\{[^}]*\}|\((?:[^()]|\((?:[^()]|\([^()]*\))*\))*\)))*)\s*:(?=\s)(.*)", re.S)
 
 
 def files(pattern):
@@ -27,14 +26,14 @@ def without_comments(text):
 
 
 def items(text):
-    """The declarations at the left edge, each with the lines below it."""
-    found = []
-    for line in text.split("\n"):
-        if line and not line[0].isspace():
-            found.append(line)
-        elif found:
-            found[-1] += "\n" + line
-    return found
+    """Each line with the lines below it that stand further in: a declaration and its type, at any depth."""
+    lines = [line for line in text.split("\n") if line.strip()]
+    depth = [len(line) - len(line.lstrip()) for line in lines]
+    for i, line in enumerate(lines):
+        end = i + 1
+        while end < len(lines) and depth[end] > depth[i]:
+            end += 1
+        yield "\n".join(lines[i:end])
 
 
 def declared():
@@ -42,20 +41,14 @@ def declared():
     names = {}
     for path in files("specs/**/*.antt") + files("proofs/**/*.antt"):
         for item in items(without_comments(open(path, encoding="utf-8").read())):
-            if re.match(r"(pub )?(use|mod) |unfolding|open ", item):
+            if re.match(r"\s*((pub )?(use|mod)|unfolding|open|let|module)\b", item):
                 continue
             m = DECLARED.match(item)
-            if not m:
+            if not m or m.group(4).strip().startswith(("goal.", "given.")):
                 continue
             kind, name, body = m.group(1), m.group(2), m.group(4)
-            if body.strip().startswith(("goal.", "given.")):
-                continue
-            result = re.split(r"\n\S", body)[0].split("→")[-1].strip()
-            is_type = kind in ("record", "data") or re.match(r"Type\b", result) is not None
+            is_type = kind in ("record", "data") or re.match(r"Type\b", body.split("→")[-1].strip()) is not None
             names[name] = names.get(name, False) or is_type
-            if kind in ("record", "data"):
-                for field in FIELD.findall(item.split("\n", 1)[1] if "\n" in item else ""):
-                    names.setdefault(field, False)
     return names
 
 

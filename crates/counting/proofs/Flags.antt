@@ -6,7 +6,7 @@ use Rattle.format.specs.Glyphs.{required_from}
 use Rattle.format.proofs.Alike.{same_lists}
 use Rattle.variations.specs.declared.delta.GlyphDelta.{GlyphDelta}
 use Rattle.variations.specs.Deltas.{deltas_of}
-use Rattle.variations.proofs.GapCuts.{points-keep, points-skip, points_end}
+use Rattle.variations.proofs.GapCuts.{points_keep, points_skip, points_end}
 use Rattle.counts.proofs.Classes.{refuted}
 use Rattle.counting.specs.PointSets.{mix, no_delta, required_at, points_itself}
 
@@ -69,8 +69,8 @@ pub hash_step : (ds : List GlyphDelta) (i h r : ℕ) → i < length ds → r ≡
 hash_step ds i h r l e = by (required_at ds i) refl
   where
     by : (b : Bool) → required_at ds i ≡ b → fold mix r (points (i + 1) (drop (i + 1) ds)) ≡ fold mix h (points i (drop i ds))
-    by true q = ap (λ (x : ℕ). fold mix x (points (i + 1) (drop (i + 1) ds))) (e ∙ cond-true _ _ _ q) ∙ ap (λ (ps : List ℕ). fold mix h ps) (sym (points-keep ds i no_delta l q))
-    by false q = ap (λ (x : ℕ). fold mix x (points (i + 1) (drop (i + 1) ds))) (e ∙ cond-false _ _ _ q) ∙ ap (λ (ps : List ℕ). fold mix h ps) (sym (points-skip ds i no_delta l q))
+    by true q = ap (λ (x : ℕ). fold mix x (points (i + 1) (drop (i + 1) ds))) (e ∙ cond-true _ _ _ q) ∙ ap (λ (ps : List ℕ). fold mix h ps) (sym (points_keep ds i no_delta l q))
+    by false q = ap (λ (x : ℕ). fold mix x (points (i + 1) (drop (i + 1) ds))) (e ∙ cond-false _ _ _ q) ∙ ap (λ (ps : List ℕ). fold mix h ps) (sym (points_skip ds i no_delta l q))
 
 pub hash_end : (ds : List GlyphDelta) (i h : ℕ) → length ds ≤ i → fold mix h (points i (drop i ds)) ≡ h
 hash_end ds i h l = ap (λ (ps : List ℕ). fold mix h ps) (points_end ds i l)

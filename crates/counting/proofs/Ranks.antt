@@ -26,11 +26,11 @@ module _ (rs ps : List (List ℤ)) (m : ℕ) (e : rs ≡ ps) (k : m ≡ length p
       subst (λ (n : ℕ). Standing (same_peak ps) (λ c. count n (same_peak ps) c) n cells) k
       (subst (λ (qs : List (List ℤ)). Standing (same_peak qs) (λ c. count m (same_peak qs) c) m cells) e t)
 
-  pub ranks-held : RanksHeld ps cells
-  ranks-held = stands.ranks
+  pub ranks_held : RanksHeld ps cells
+  ranks_held = stands.ranks
 
-  pub orders-held : OrdersHeld ps cells
-  orders-held = stands.orders
+  pub orders_held : OrdersHeld ps cells
+  orders_held = stands.orders
 
 pub shared_is : (rs ps : List (List ℤ)) (m r q : ℕ) → rs ≡ ps → m ≡ length ps → r ≡ count_below m (repeats m (same_peak rs)) → q ≡ min r 4095 → q ≡ shared_count ps
 shared_is rs ps m r q e k is least =

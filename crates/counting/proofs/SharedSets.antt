@@ -8,11 +8,11 @@ use Rattle.format.specs.Glyphs.{point_sets, stored_points, same_set, set_score, 
 use Rattle.format.specs.Packed.{Points, every}
 use Rattle.format.specs.Ranked.{count_below, first_below, first, count, is_first, rank, ranked}
 use Rattle.format.proofs.Counts.{count_none, count_less}
-use Rattle.format.proofs.Ranks.{ranked-below}
+use Rattle.format.proofs.Ranks.{ranked_below}
 use Rattle.counts.specs.Sameness.{Sameness}
 use Rattle.counts.specs.Marking.{of_best}
 use Rattle.counts.specs.Ranking.{score_of}
-use Rattle.counts.proofs.Classes.{first-le, first-same, first_alike, is_first_yes, is_first_own}
+use Rattle.counts.proofs.Classes.{first_le, first_same, first_alike, is_first_yes, is_first_own}
 use Rattle.sets.specs.Views.{no_variation}
 use Rattle.counting.specs.Counted.{marks}
 use Rattle.counting.specs.PointSets.{worth_of, sets_sameness}
@@ -31,32 +31,32 @@ module _ {same : ℕ → ℕ → Bool} {n : ℕ} (s : Sameness same n) (score : 
   abbrev best : ℕ
   best = ranked n same score 0
 
-  some-class : 0 < count_below n (is_first n same)
-  some-class =
-      let own : first n same 0 ≡ 0 = omega (arith, first-le s 0 (omega arith)) in
+  some_class : 0 < count_below n (is_first n same)
+  some_class =
+      let own : first n same 0 ≡ 0 = omega (arith, first_le s 0 (omega arith)) in
       let z = count_none n (λ k. false) (λ k m. refl) in
       omega (arith, count_less n (λ k. false) (is_first n same) (λ k m e. absurd (both_ways false refl e)) 0 (omega arith) refl (is_first_yes n same 0 own))
 
-  best-inside : best < n
-  best-inside = ranked-below n same score 0 some-class
+  best_inside : best < n
+  best_inside = ranked_below n same score 0 some_class
 
-  best-first : first n same best ≡ best
-  best-first =
+  best_first : first n same best ≡ best
+  best_first =
       is_first_own n same best
-      (and_parts (is_first n same best) (eqb (rank n same score best) 0) (passes n (λ c. is_first n same c && eqb (rank n same score c) 0) best-inside)).0
+      (and_parts (is_first n same best) (eqb (rank n same score best) 0) (passes n (λ c. is_first n same c && eqb (rank n same score c) 0) best_inside)).0
 
-  pub best-is : eqb (first n same i) best ≡ same best i
-  best-is = by (same best i) refl
+  pub best_is : eqb (first n same i) best ≡ same best i
+  best_is = by (same best i) refl
     where
       by : (b : Bool) → same best i ≡ b → eqb (first n same i) best ≡ b
-      by true e = eq-eqb (first n same i) best (first-same s best i best-inside l e ∙ best-first)
+      by true e = eq-eqb (first n same i) best (first_same s best i best_inside l e ∙ best_first)
       by false e = ne_eqb (first n same i) best (λ q. both_ways _ e (subst (λ (x : ℕ). same x i ≡ true) q (first_alike s i l)))
 
 shared_is : (ps : List Points) (i : ℕ) → i < length ps → of_best (length ps) (same_set ps) (set_score ps) i ≡ is_shared (shared_points ps) (get_or ps i every)
 shared_is ps i l = by (ltb 1 (count (length ps) (same_set ps) (ranked (length ps) (same_set ps) (set_score ps) 0)))
   where
     by : (t : Bool) → (t && eqb (first (length ps) (same_set ps) i) (ranked (length ps) (same_set ps) (set_score ps) 0)) ≡ is_shared (cond t (some (get_or ps (ranked (length ps) (same_set ps) (set_score ps) 0) every)) none) (get_or ps i every)
-    by true = best-is (sets_sameness ps (length ps)) (set_score ps) i l
+    by true = best_is (sets_sameness ps (length ps)) (set_score ps) i l
     by false = refl
 
 -- the marks of a glyph's variations

@@ -27,25 +27,25 @@ module _ (s : Set) (first count i : ℕ) (l : i < count) (within : first + count
   abbrev shown : Variation
   shown = get_or (all_variations (glyphs_of s)) (first + i) no_variation
 
-  pub spanned-long : length (spanned s first count) ≡ count
-  spanned-long = let d = length-drop first (all_variations (glyphs_of s)) in length-take-le count (drop first (all_variations (glyphs_of s))) (omega arith)
+  pub spanned_long : length (spanned s first count) ≡ count
+  spanned_long = let d = length-drop first (all_variations (glyphs_of s)) in length-take-le count (drop first (all_variations (glyphs_of s))) (omega arith)
 
   set_at : get_or (sets_of s first count) i every ≡ stored_points shown.deltas
   set_at =
-      let k = spanned-long in
+      let k = spanned_long in
       let h : i < length (spanned s first count) = omega arith in
       get_or-map (λ v. stored_points v.deltas) (spanned s first count) i no_variation every h
       ∙ ap (λ (v : Variation). stored_points v.deltas) (get_or-take count (drop first (all_variations (glyphs_of s))) i no_variation l ∙ get_or-drop first (all_variations (glyphs_of s)) i no_variation)
 
   -- variation i of the span, seen
-  pub points-shown : (a : ℕ) (r : GlyphDeltas) → Shows a r shown → kept_points r.stored.all (deltas_of r.deltas.now) ≡ get_or (sets_of s first count) i every
-  points-shown a r h = shown_points a r shown h ∙ sym set_at
+  pub points_shown : (a : ℕ) (r : GlyphDeltas) → Shows a r shown → kept_points r.stored.all (deltas_of r.deltas.now) ≡ get_or (sets_of s first count) i every
+  points_shown a r h = shown_points a r shown h ∙ sym set_at
 
-  pub size-shown : (a : ℕ) (r : GlyphDeltas) → Shows a r shown → r.stored.points ≡ length (packed_points (get_or (sets_of s first count) i every))
-  size-shown a r h = h.stored.points_are ∙ ap (λ (p : Points). length (packed_points p)) (sym set_at)
+  pub size_shown : (a : ℕ) (r : GlyphDeltas) → Shows a r shown → r.stored.points ≡ length (packed_points (get_or (sets_of s first count) i every))
+  size_shown a r h = h.stored.points_are ∙ ap (λ (p : Points). length (packed_points p)) (sym set_at)
 
-  pub size-most : (a : ℕ) (r : GlyphDeltas) → Shows a r shown → r.stored.points ≤ 98303
-  size-most a r h =
+  pub size_most : (a : ℕ) (r : GlyphDeltas) → Shows a r shown → r.stored.points ≤ 98303
+  size_most a r h =
       let m = stored_most shown.deltas in
       let e = h.stored.points_are in
       let d = length-map r.deltas.now delta_of in

@@ -8,14 +8,14 @@ use Rattle.counts.specs.Sameness.{Sameness}
 use Rattle.counts.specs.Cells.{first_at, count_at, head_at, next_at, entered, chained}
 use Rattle.counts.specs.Tables.{Filled}
 use Rattle.counts.specs.Chains.{Link, State}
-use Rattle.counts.proofs.Steps.{entered_here, entered-first, entered-head, entered-next, entered-joined, entered-new, entered-count, entered-leaves, chained-first, chained-count, chained-next, chained-nexts, chained-head, chained-heads, chained-leaves}
-use Rattle.counts.proofs.Classes.{refuted, count_le, count_yes, count_no, first-is-least, first-inside, first_alike, first-le, first-same, first-first, count-first}
+use Rattle.counts.proofs.Steps.{entered_here, entered_first, entered_head, entered_next, entered_joined, entered_new, entered_count, entered_leaves, chained_first, chained_count, chained_next, chained_nexts, chained_head, chained_heads, chained_leaves}
+use Rattle.counts.proofs.Classes.{refuted, count_le, count_yes, count_no, first_is_least, first_inside, first_alike, first_le, first_same, first_first, count_first}
 
 module _ {alike : ℕ → ℕ → Bool} {code : ℕ → ℕ} {n : ℕ} (s : Sameness alike n) where
   -- a count never passes the items so far
-  pub state-fits : (cells : List CountCell) (i f : ℕ) → i < n → f ≡ first n alike i → State alike code n i cells → f < i → count_at cells f ≤ i
-  state-fits cells i f hi h t l =
-      let own : first n alike f ≡ f = rw h (first-first s i hi) in
+  pub state_fits : (cells : List CountCell) (i f : ℕ) → i < n → f ≡ first n alike i → State alike code n i cells → f < i → count_at cells f ≤ i
+  state_fits cells i f hi h t l =
+      let own : first n alike f ≡ f = rw h (first_first s i hi) in
       rw (t.counts f l own) (count_le i (λ j. alike j f))
 
   module _ (cells : List CountCell) (i f : ℕ) (hi : i < n) (t : State alike code n i cells) (h : f ≡ first n alike i) where
@@ -23,7 +23,7 @@ module _ {alike : ℕ → ℕ → Bool} {code : ℕ → ℕ} {n : ℕ} (s : Same
     after = entered cells i f
 
     le : f ≤ i
-    le = omega (arith, first-le s i hi)
+    le = omega (arith, first_le s i hi)
 
     within : i < length cells
     within = omega (arith, t.long)
@@ -31,42 +31,42 @@ module _ {alike : ℕ → ℕ → Bool} {code : ℕ → ℕ} {n : ℕ} (s : Same
     firsts_more : (k : ℕ) → k < i + 1 → first_at after k ≡ first n alike k
     firsts_more k l = elim (cases_eq k i) [
       | inl e ↦ rw e (entered_here cells i f within le ∙ h)
-      | inr ne ↦ entered-first cells i f within le k ne ∙ t.firsts k (omega arith)
+      | inr ne ↦ entered_first cells i f within le k ne ∙ t.firsts k (omega arith)
     ]
 
     -- the class that item i joins
-    counts-joined : f < i → count_at after f ≡ count_below (i + 1) (λ j. alike j f)
-    counts-joined lt =
-        let own : first n alike f ≡ f = rw h (first-first s i hi) in
+    counts_joined : f < i → count_at after f ≡ count_below (i + 1) (λ j. alike j f)
+    counts_joined lt =
+        let own : first n alike f ≡ f = rw h (first_first s i hi) in
         let lf : f < n = omega arith in
         let meets : alike i f ≡ true = s.symmetric f i lf hi (subst (λ (x : ℕ). alike x i ≡ true) (sym h) (first_alike s i hi)) in
-        entered-joined cells i f within le lt ∙ ap (λ (x : ℕ). x + 1) (t.counts f lt own) ∙ sym (count_yes i (λ j. alike j f) meets)
+        entered_joined cells i f within le lt ∙ ap (λ (x : ℕ). x + 1) (t.counts f lt own) ∙ sym (count_yes i (λ j. alike j f) meets)
 
-    counts-new : f ≡ i → count_at after f ≡ count_below (i + 1) (λ j. alike j f)
-    counts-new e =
-        let none : count_below i (λ j. alike j f) ≡ 0 = count_none i (λ j. alike j f) (λ k l. subst (λ (x : ℕ). alike k x ≡ false) (sym e) ((first-is-least s i hi).least k (omega arith))) in
+    counts_new : f ≡ i → count_at after f ≡ count_below (i + 1) (λ j. alike j f)
+    counts_new e =
+        let none : count_below i (λ j. alike j f) ≡ 0 = count_none i (λ j. alike j f) (λ k l. subst (λ (x : ℕ). alike k x ≡ false) (sym e) ((first_is_least s i hi).least k (omega arith))) in
         let itself : alike i f ≡ true = subst (λ (x : ℕ). alike i x ≡ true) (sym e) (s.reflexive i hi) in
-        entered-new cells i f within le e ∙ omega (arith, none, count_yes i (λ j. alike j f) itself)
+        entered_new cells i f within le e ∙ omega (arith, none, count_yes i (λ j. alike j f) itself)
 
     -- every other class
-    counts-other : (k : ℕ) → k < i + 1 → first n alike k ≡ k → k ≢ f → count_at after k ≡ count_below (i + 1) (λ j. alike j k)
-    counts-other k l own ne =
+    counts_other : (k : ℕ) → k < i + 1 → first n alike k ≡ k → k ≢ f → count_at after k ≡ count_below (i + 1) (λ j. alike j k)
+    counts_other k l own ne =
         let ni : k ≢ i = λ e. ne (sym (h ∙ ap (first n alike) (sym e) ∙ own)) in
         let lk : k < i = omega arith in
         let hk : k < n = omega arith in
-        let differs : alike i k ≡ false = refuted (alike i k) (λ e. ne (sym own ∙ first-same s i k hi hk e ∙ sym h)) in
-        entered-count cells i f within le k ne ni ∙ t.counts k lk own ∙ sym (count_no i (λ j. alike j k) differs)
+        let differs : alike i k ≡ false = refuted (alike i k) (λ e. ne (sym own ∙ first_same s i k hi hk e ∙ sym h)) in
+        entered_count cells i f within le k ne ni ∙ t.counts k lk own ∙ sym (count_no i (λ j. alike j k) differs)
 
     counts_more : (k : ℕ) → k < i + 1 → first n alike k ≡ k → count_at after k ≡ count_below (i + 1) (λ j. alike j k)
     counts_more k l own = elim (cases_eq k f) [
       | inl e ↦ subst (λ (x : ℕ). count_at after x ≡ count_below (i + 1) (λ j. alike j x)) (sym e)
-          (elim (cases_eq f i) [ inl q ↦ counts-new q | inr nq ↦ counts-joined (omega (arith, le)) ])
-      | inr ne ↦ counts-other k l own ne
+          (elim (cases_eq f i) [ inl q ↦ counts_new q | inr nq ↦ counts_joined (omega (arith, le)) ])
+      | inr ne ↦ counts_other k l own ne
     ]
 
     -- a link that stays, past an item that is in another bucket or not a first item
-    link-more : (b x : ℕ) → Link alike code n b i x → (first n alike i ≡ i → code i % n ≡ b → ⊥) → Link alike code n b (i + 1) x
-    link-more b x l out = record {
+    link_more : (b x : ℕ) → Link alike code n b i x → (first n alike i ≡ i → code i % n ≡ b → ⊥) → Link alike code n b (i + 1) x
+    link_more b x l out = record {
       all = λ g lg own at. elim (cases_eq g i) [
         | inl e ↦ absurd (out (subst (λ (y : ℕ). first n alike y ≡ y) e own) (subst (λ (y : ℕ). code y % n ≡ b) e at))
         | inr ne ↦ l.all g (omega arith) own at
@@ -74,16 +74,16 @@ module _ {alike : ℕ → ℕ → Bool} {code : ℕ → ℕ} {n : ℕ} (s : Same
       some = λ p. let k = l.some p in (omega (arith, k.0), k.1, k.2);
     }
 
-    pub state-joins : f < i → State alike code n (i + 1) after
-    state-joins lt = record {
-      long = omega (arith, t.long, (entered-leaves cells i f within le n hi).long);
+    pub state_joins : f < i → State alike code n (i + 1) after
+    state_joins lt = record {
+      long = omega (arith, t.long, (entered_leaves cells i f within le n hi).long);
       firsts = firsts_more;
       counts = counts_more;
-      heads = λ b l. subst (λ (x : ℕ). Link alike code n b (i + 1) x) (sym (entered-head cells i f within le b))
-          (link-more b (head_at cells b) (t.heads b l) (λ own _. let z : ⊥ = omega arith in z));
+      heads = λ b l. subst (λ (x : ℕ). Link alike code n b (i + 1) x) (sym (entered_head cells i f within le b))
+          (link_more b (head_at cells b) (t.heads b l) (λ own _. let z : ⊥ = omega arith in z));
       nexts = λ j l own. elim (cases_eq j i) [
         | inl e ↦ absurd (let q : first n alike i ≡ i = subst (λ (x : ℕ). first n alike x ≡ x) e own in let z : ⊥ = omega arith in z)
-        | inr ne ↦ subst (λ (x : ℕ). Link alike code n (code j % n) j x) (sym (entered-next cells i f within le j)) (t.nexts j (omega arith) own)
+        | inr ne ↦ subst (λ (x : ℕ). Link alike code n (code j % n) j x) (sym (entered_next cells i f within le j)) (t.nexts j (omega arith) own)
       ];
     }
 
@@ -92,38 +92,38 @@ module _ {alike : ℕ → ℕ → Bool} {code : ℕ → ℕ} {n : ℕ} (s : Same
       last = chained after i b
 
       in_after : i < length after
-      in_after = omega (arith, within, (entered-leaves cells i f within le n hi).long)
+      in_after = omega (arith, within, (entered_leaves cells i f within le n hi).long)
 
-      b-after : b < length after
-      b-after = omega (arith, t.long, (entered-leaves cells i f within le n hi).long)
+      b_after : b < length after
+      b_after = omega (arith, t.long, (entered_leaves cells i f within le n hi).long)
 
-      top-link : Link alike code n b (i + 1) (i + 1)
-      top-link = record {
+      top_link : Link alike code n b (i + 1) (i + 1)
+      top_link = record {
         all = λ g l own at. l;
         some = λ p. let e : i + 1 - 1 ≡ i = omega arith in (omega arith, subst (λ (x : ℕ). first n alike x ≡ x) (sym e) (sym h ∙ new), ap (λ (x : ℕ). code x % n) e ∙ sym bucket);
       }
 
-      pub state-starts : State alike code n (i + 1) last
-      state-starts = record {
-        long = omega (arith, t.long, (entered-leaves cells i f within le n hi).long, (chained-leaves after i b in_after b-after n hi lb).long);
-        firsts = λ k l. chained-first after i b in_after b-after k ∙ firsts_more k l;
-        counts = λ k l own. chained-count after i b in_after b-after k ∙ counts_more k l own;
+      pub state_starts : State alike code n (i + 1) last
+      state_starts = record {
+        long = omega (arith, t.long, (entered_leaves cells i f within le n hi).long, (chained_leaves after i b in_after b_after n hi lb).long);
+        firsts = λ k l. chained_first after i b in_after b_after k ∙ firsts_more k l;
+        counts = λ k l own. chained_count after i b in_after b_after k ∙ counts_more k l own;
         heads = λ d l. elim (cases_eq d b) [
-          | inl e ↦ subst (λ (y : ℕ). Link alike code n y (i + 1) (head_at last y)) (sym e) (subst (λ (x : ℕ). Link alike code n b (i + 1) x) (sym (chained-head after i b in_after b-after)) top-link)
-          | inr ne ↦ subst (λ (x : ℕ). Link alike code n d (i + 1) x) (sym (chained-heads after i b in_after b-after d ne ∙ entered-head cells i f within le d))
-              (link-more d (head_at cells d) (t.heads d l) (λ _ at. ne (sym at ∙ sym bucket)))
+          | inl e ↦ subst (λ (y : ℕ). Link alike code n y (i + 1) (head_at last y)) (sym e) (subst (λ (x : ℕ). Link alike code n b (i + 1) x) (sym (chained_head after i b in_after b_after)) top_link)
+          | inr ne ↦ subst (λ (x : ℕ). Link alike code n d (i + 1) x) (sym (chained_heads after i b in_after b_after d ne ∙ entered_head cells i f within le d))
+              (link_more d (head_at cells d) (t.heads d l) (λ _ at. ne (sym at ∙ sym bucket)))
         ];
         nexts = λ j l own. elim (cases_eq j i) [
           | inl e ↦ subst (λ (y : ℕ). Link alike code n (code y % n) y (next_at last y)) (sym e)
-              (subst (λ (x : ℕ). Link alike code n (code i % n) i x) (sym (chained-next after i b in_after b-after ∙ entered-head cells i f within le b))
+              (subst (λ (x : ℕ). Link alike code n (code i % n) i x) (sym (chained_next after i b in_after b_after ∙ entered_head cells i f within le b))
               (subst (λ (y : ℕ). Link alike code n y i (head_at cells b)) bucket (t.heads b lb)))
-          | inr ne ↦ subst (λ (x : ℕ). Link alike code n (code j % n) j x) (sym (chained-nexts after i b in_after b-after j ne ∙ entered-next cells i f within le j))
+          | inr ne ↦ subst (λ (x : ℕ). Link alike code n (code j % n) j x) (sym (chained_nexts after i b in_after b_after j ne ∙ entered_next cells i f within le j))
               (t.nexts j (omega arith) own)
         ];
       }
 
-  pub state-none : (cells : List CountCell) → n ≤ length cells → ((k : ℕ) → k < n → head_at cells k ≡ 0) → State alike code n 0 cells
-  state-none cells long zeros = record {
+  pub state_none : (cells : List CountCell) → n ≤ length cells → ((k : ℕ) → k < n → head_at cells k ≡ 0) → State alike code n 0 cells
+  state_none cells long zeros = record {
     long = long;
     firsts = λ k l. absurd (let z : ⊥ = omega arith in z);
     counts = λ k l. absurd (let z : ⊥ = omega arith in z);
@@ -131,12 +131,12 @@ module _ {alike : ℕ → ℕ → Bool} {code : ℕ → ℕ} {n : ℕ} (s : Same
     nexts = λ j l. absurd (let z : ⊥ = omega arith in z);
   }
 
-  pub state-all : (cells : List CountCell) (m : ℕ) → m ≡ n → State alike code n m cells → Filled alike n cells
-  state-all cells m end u =
+  pub state_all : (cells : List CountCell) (m : ℕ) → m ≡ n → State alike code n m cells → Filled alike n cells
+  state_all cells m end u =
       let t : State alike code n n cells = subst (λ (x : ℕ). State alike code n x cells) end u in
       record {
         long = t.long;
-        inside = first-inside s;
+        inside = first_inside s;
         firsts = t.firsts;
-        counts = λ i hi. t.counts (first n alike i) (first-inside s i hi) (first-first s i hi) ∙ count-first s i hi;
+        counts = λ i hi. t.counts (first n alike i) (first_inside s i hi) (first_first s i hi) ∙ count_first s i hi;
       }

@@ -48,22 +48,22 @@ first_found n p c l e = by (search_below n p)
 
 -- ---- first items
 module _ {alike : ℕ → ℕ → Bool} {n : ℕ} (s : Sameness alike n) where
-  pub first-is-least : (i : ℕ) → i < n → Least (λ j. alike j i) n (first n alike i)
-  first-is-least i l = first_found n (λ j. alike j i) i l (s.reflexive i l)
+  pub first_is_least : (i : ℕ) → i < n → Least (λ j. alike j i) n (first n alike i)
+  first_is_least i l = first_found n (λ j. alike j i) i l (s.reflexive i l)
 
-  pub first-inside : (i : ℕ) → i < n → first n alike i < n
-  first-inside i l = (first-is-least i l).inside
+  pub first_inside : (i : ℕ) → i < n → first n alike i < n
+  first_inside i l = (first_is_least i l).inside
 
   pub first_alike : (i : ℕ) → i < n → alike (first n alike i) i ≡ true
-  first_alike i l = (first-is-least i l).passes
+  first_alike i l = (first_is_least i l).passes
 
-  pub first-le : (i : ℕ) → i < n → first n alike i ≤ i
-  first-le i l = elim (cases_lt i (first n alike i)) [ inl k ↦ absurd (both_ways _ ((first-is-least i l).least i k) (s.reflexive i l)) | inr k ↦ k ]
+  pub first_le : (i : ℕ) → i < n → first n alike i ≤ i
+  first_le i l = elim (cases_lt i (first n alike i)) [ inl k ↦ absurd (both_ways _ ((first_is_least i l).least i k) (s.reflexive i l)) | inr k ↦ k ]
 
   -- items that are the same have the same first item
-  pub first-same : (i j : ℕ) → i < n → j < n → alike i j ≡ true → first n alike j ≡ first n alike i
-  first-same i j hi hj e =
-      let f = first-is-least i hi in
+  pub first_same : (i j : ℕ) → i < n → j < n → alike i j ≡ true → first n alike j ≡ first n alike i
+  first_same i j hi hj e =
+      let f = first_is_least i hi in
       first_least n (λ k. alike k j) (first n alike i) f.inside
       (s.transitive (first n alike i) i j f.inside hi hj f.passes e)
       (λ k l. refuted (alike k j) (λ b.
@@ -73,13 +73,13 @@ module _ {alike : ℕ → ℕ → Bool} {n : ℕ} (s : Sameness alike n) where
   -- and the other way round
   pub same_first : (i j : ℕ) → i < n → j < n → first n alike i ≡ first n alike j → alike i j ≡ true
   same_first i j hi hj e =
-      let f = first-is-least i hi in
+      let f = first_is_least i hi in
       let g : alike (first n alike i) j ≡ true = subst (λ (x : ℕ). alike x j ≡ true) (sym e) (first_alike j hj) in
       s.transitive i (first n alike i) j hi f.inside hj (s.symmetric (first n alike i) i f.inside hi f.passes) g
 
   -- a first item is its own
-  pub first-first : (i : ℕ) → i < n → first n alike (first n alike i) ≡ first n alike i
-  first-first i l = sym (first-same (first n alike i) i (first-inside i l) l (first_alike i l))
+  pub first_first : (i : ℕ) → i < n → first n alike (first n alike i) ≡ first n alike i
+  first_first i l = sym (first_same (first n alike i) i (first_inside i l) l (first_alike i l))
 
   pub count_same : (i j : ℕ) → i < n → j < n → alike i j ≡ true → count n alike j ≡ count n alike i
   count_same i j hi hj e =
@@ -87,8 +87,8 @@ module _ {alike : ℕ → ℕ → Bool} {n : ℕ} (s : Sameness alike n) where
       let b = count_more n (λ k. alike k i) (λ k. alike k j) (λ k l b. s.transitive k i j l hi hj b e) in
       omega arith
 
-  pub count-first : (i : ℕ) → i < n → count n alike (first n alike i) ≡ count n alike i
-  count-first i l = sym (count_same (first n alike i) i (first-inside i l) l (first_alike i l))
+  pub count_first : (i : ℕ) → i < n → count n alike (first n alike i) ≡ count n alike i
+  count_first i l = sym (count_same (first n alike i) i (first_inside i l) l (first_alike i l))
 
   pub count_some : (i : ℕ) → i < n → 0 < count n alike i
   count_some i l =

@@ -7,7 +7,7 @@ use Rattle.counts.specs.Cells.{first_at, count_at, order_at}
 use Rattle.counts.specs.Ranking.{listed, LeavesCounts}
 use Rattle.counts.specs.Heaps.{Entries, Apart}
 use Rattle.counts.proofs.Classes.{count_le, count_yes, count_no}
-use Rattle.counts.proofs.Steps.{field-same, field-other}
+use Rattle.counts.proofs.Steps.{field_same, field_other}
 use Rattle.counts.proofs.Swaps.{counts_same, counts_more, counts_set, listed_same}
 
 -- the first items below c are at the first k places
@@ -47,13 +47,13 @@ module _ (old : List CountCell) (n c k : ℕ) (cells : List CountCell) (x : Coun
   within = omega (arith, collected_few old n c k cells w)
 
   here : order_at (set cells k x) k ≡ c
-  here = field-same (λ y. y.order) cells k x within ∙ order
+  here = field_same (λ y. y.order) cells k x within ∙ order
 
   earlier : (i : ℕ) → i < k → order_at (set cells k x) i ≡ order_at cells i
-  earlier i l = let ne : i ≢ k = omega arith in field-other (λ y. y.order) cells k x i ne
+  earlier i l = let ne : i ≢ k = omega arith in field_other (λ y. y.order) cells k x i ne
 
-  is-listed : listed old n c ≡ true
-  is-listed = sym (listed_same n n old cells w.rest c) ∙ sym head
+  is_listed : listed old n c ≡ true
+  is_listed = sym (listed_same n n old cells w.rest c) ∙ sym head
 
   each : (P : ℕ → Type 0) → ((i : ℕ) → i < k → P (order_at cells i)) → P c → (i : ℕ) → i < k + 1 → P (order_at (set cells k x) i)
   each P h p i l = elim (cases_eq i k) [
@@ -80,11 +80,11 @@ module _ (old : List CountCell) (n c k : ℕ) (cells : List CountCell) (x : Coun
         ]
   ]
 
-  pub collected-more : Collected old n (c + 1) (k + 1) (set cells k x)
-  collected-more = record {
-    count = ap (λ (m : ℕ). m + 1) w.count ∙ sym (count_yes c (listed old n) is-listed);
+  pub collected_more : Collected old n (c + 1) (k + 1) (set cells k x)
+  collected_more = record {
+    count = ap (λ (m : ℕ). m + 1) w.count ∙ sym (count_yes c (listed old n) is_listed);
     inside = each (λ y. y < c + 1) (λ i l. omega (arith, w.inside i l)) (omega arith);
-    heads = each (λ y. listed old n y ≡ true) w.heads is-listed;
+    heads = each (λ y. listed old n y ≡ true) w.heads is_listed;
     apart = apart_more;
     rest = counts_more n old cells (set cells k x) w.rest (counts_set n k cells x (omega (arith, collected_few old n c k cells w)) within first count);
   }

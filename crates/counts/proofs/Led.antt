@@ -12,19 +12,19 @@ use Rattle.counts.proofs.Classes.{count_ext}
 
 -- ---- what the cells of a filled table say
 module _ {same : ℕ → ℕ → Bool} {n : ℕ} {cells : List CountCell} (t : Filled same n cells) where
-  repeats-is : (c : ℕ) → c < n → repeats_in cells c ≡ repeats n same c
-  repeats-is c l = elim (cases_eq (first n same c) c) [
+  repeats_is : (c : ℕ) → c < n → repeats_in cells c ≡ repeats n same c
+  repeats_is c l = elim (cases_eq (first n same c) c) [
     | inl own ↦
         let k : count_at cells c ≡ count n same c = subst (λ (x : ℕ). count_at cells x ≡ count n same c) own (t.counts c l) in
         ap (λ (x : ℕ). eqb x c && ltb 1 (count_at cells c)) (t.firsts c l) ∙ ap (λ (x : ℕ). eqb (first n same c) c && ltb 1 x) k
     | inr ne ↦ and_left _ _ (ne_eqb _ _ (λ e. ne (sym (t.firsts c l) ∙ e))) ∙ sym (and_left (eqb (first n same c) c) _ (ne_eqb (first n same c) c ne))
   ]
 
-  pub repeated-is : count_below n (repeats_in cells) ≡ count_below n (repeats n same)
-  repeated-is = count_ext n (repeats_in cells) (repeats n same) repeats-is
+  pub repeated_is : count_below n (repeats_in cells) ≡ count_below n (repeats n same)
+  repeated_is = count_ext n (repeats_in cells) (repeats n same) repeats_is
 
-  pub best-led : (score : ℕ → ℕ) (best : Option Class) (i : ℕ) → i < n → best ≡ Some (class_ranked n same score 0) → led_by best (first_at cells i) ≡ of_best n same score i
-  best-led score best i l e =
+  pub best_led : (score : ℕ → ℕ) (best : Option Class) (i : ℕ) → i < n → best ≡ Some (class_ranked n same score 0) → led_by best (first_at cells i) ≡ of_best n same score i
+  best_led score best i l e =
       ap (λ (o : Option Class). led_by o (first_at cells i)) e ∙ ap (λ (f : ℕ). led_by (Some (class_ranked n same score 0)) f) (t.firsts i l)
 
 -- ---- the marks, cell by cell
@@ -58,8 +58,8 @@ module _ (n i : ℕ) (class : Option Class) (old cells : List CountCell) (m : Bo
     | inr ne ↦ there k ne ∙ w.rest.rest k ∙ ap (λ (b : Bool). with_marked (get_or old k blank) b) (sym (ap (λ (x : CountCell). x.marked) (there k ne)))
   ]
 
-  pub marking-more : Marking n (i + 1) class old new
-  marking-more = record {
+  pub marking_more : Marking n (i + 1) class old new
+  marking_more = record {
     marks = below_more _ _
         (λ k h. let ne : k ≢ i = omega arith in ap (λ (x : CountCell). x.marked) (there k ne) ∙ w.marks k h)
         (ap (λ (x : CountCell). x.marked) here ∙ is ∙ ap (λ (x : CountCell). led_by class x.first) (w.rest.rest i));

@@ -5,7 +5,7 @@ use Rattle.counts.specs.declared.cells.CountCell.{CountCell}
 use Rattle.counts.specs.Cells.{blank, first_at, rank_at, order_at, with_rank, with_order}
 use Rattle.counts.specs.Ranking.{LeavesCounts, Joins}
 use Rattle.counts.specs.Heaps.{Apart, flip}
-use Rattle.counts.proofs.Steps.{field-same, field-other, field-kept}
+use Rattle.counts.proofs.Steps.{field_same, field_other, field_kept}
 use Rattle.counts.proofs.Swaps.{counts_same, counts_more, counts_set, flip_left, flip_right, flip_other}
 
 -- ---- two places exchanged
@@ -22,22 +22,22 @@ module _ (cells : List CountCell) (i j : ℕ) (lt : i < j) (within : j < length 
   abbrev both : List CountCell
   both = set half j right
 
-  half-long : j < length half
-  half-long = simp length-set within
+  half_long : j < length half
+  half_long = simp length-set within
 
-  pub swapped-order : (k : ℕ) → order_at both k ≡ order_at cells (flip i j k)
-  swapped-order k = elim (cases_eq k j) [
+  pub swapped_order : (k : ℕ) → order_at both k ≡ order_at cells (flip i j k)
+  swapped_order k = elim (cases_eq k j) [
     | inl e ↦
         let ne : i ≢ j = omega arith in
-        ap (order_at both) e ∙ field-same (λ x. x.order) half j right half-long ∙ ap (order_at cells) (sym (ap (flip i j) e ∙ flip_right i j ne))
-    | inr nj ↦ field-other (λ x. x.order) half j right k nj ∙ elim (cases_eq k i) [
-      | inl e ↦ ap (order_at half) e ∙ field-same (λ x. x.order) cells i left (omega arith) ∙ ap (order_at cells) (sym (ap (flip i j) e ∙ flip_left i j))
-      | inr ni ↦ field-other (λ x. x.order) cells i left k ni ∙ ap (order_at cells) (sym (flip_other i j k ni nj))
+        ap (order_at both) e ∙ field_same (λ x. x.order) half j right half_long ∙ ap (order_at cells) (sym (ap (flip i j) e ∙ flip_right i j ne))
+    | inr nj ↦ field_other (λ x. x.order) half j right k nj ∙ elim (cases_eq k i) [
+      | inl e ↦ ap (order_at half) e ∙ field_same (λ x. x.order) cells i left (omega arith) ∙ ap (order_at cells) (sym (ap (flip i j) e ∙ flip_left i j))
+      | inr ni ↦ field_other (λ x. x.order) cells i left k ni ∙ ap (order_at cells) (sym (flip_other i j k ni nj))
     ]
   ]
 
-  pub swapped-rest : LeavesCounts (j + 1) cells both
-  swapped-rest = counts_more (j + 1) cells half both (counts_set (j + 1) i cells left (omega arith) (omega arith) refl refl) (counts_set (j + 1) j half right (omega arith) half-long refl refl)
+  pub swapped_rest : LeavesCounts (j + 1) cells both
+  swapped_rest = counts_more (j + 1) cells half both (counts_set (j + 1) i cells left (omega arith) (omega arith) refl refl) (counts_set (j + 1) j half right (omega arith) half_long refl refl)
 
 -- ---- the ranks of first items
 pub record Marked (n r : ℕ) (old cells : List CountCell) : Type 0 where
@@ -58,13 +58,13 @@ marked_more n k r old cells long l inside apart m =
     let x = with_rank (get_or cells c blank) r in
     record {
       ranks = λ q lq. elim (cases_eq q r) [
-        | inl p ↦ ap (rank_at (set cells c x)) (ap (order_at old) p ∙ sym e) ∙ field-same (λ y. y.rank) cells c x within ∙ sym p
+        | inl p ↦ ap (rank_at (set cells c x)) (ap (order_at old) p ∙ sym e) ∙ field_same (λ y. y.rank) cells c x within ∙ sym p
         | inr np ↦
             let lk : q < k = omega arith in
             let ne : order_at old q ≢ c = λ p. np (apart q r lk l (p ∙ e)) in
-            field-other (λ y. y.rank) cells c x (order_at old q) ne ∙ m.ranks q (omega arith)
+            field_other (λ y. y.rank) cells c x (order_at old q) ne ∙ m.ranks q (omega arith)
       ];
-      orders = λ q. field-kept (λ y. y.order) cells c x within refl q ∙ m.orders q;
+      orders = λ q. field_kept (λ y. y.order) cells c x within refl q ∙ m.orders q;
       rest = counts_more n old cells (set cells c x) m.rest (counts_set n c cells x low within refl refl);
     }
 
@@ -107,10 +107,10 @@ spread_more n i old cells long l lt s =
             let own : first_at old f ≡ f = ap (first_at old) e ∙ q ∙ sym e in
             let joins : Joins old f = (omega arith, ap (first_at old) own) in
             subst (λ (y : ℕ). rank_at (set cells i x) y ≡ rank_at old (first_at old y)) (sym p)
-            (field-same (λ y. y.rank) cells i x within ∙ s.ranks f lt joins ∙ ap (rank_at old) (own ∙ e))
-        | inr np ↦ field-other (λ y. y.rank) cells i x j np ∙ s.ranks j (omega arith) h
+            (field_same (λ y. y.rank) cells i x within ∙ s.ranks f lt joins ∙ ap (rank_at old) (own ∙ e))
+        | inr np ↦ field_other (λ y. y.rank) cells i x j np ∙ s.ranks j (omega arith) h
       ];
-      later = λ j lj. let ne : j ≢ i = omega arith in field-other (λ y. y.rank) cells i x j ne ∙ s.later j (omega arith);
-      orders = λ q. field-kept (λ y. y.order) cells i x within refl q ∙ s.orders q;
+      later = λ j lj. let ne : j ≢ i = omega arith in field_other (λ y. y.rank) cells i x j ne ∙ s.later j (omega arith);
+      orders = λ q. field_kept (λ y. y.order) cells i x within refl q ∙ s.orders q;
       rest = counts_more n old cells (set cells i x) s.rest (counts_set n i cells x l within refl refl);
     }

@@ -15,8 +15,8 @@ module _ (a m : ℕ) (xs ys : List CountCell) (within : a + m ≤ length xs) (lo
   front = length-take-le a xs (omega arith)
 
   -- a field that those cells keep
-  field-around : (field : CountCell → ℕ) → ((j : ℕ) → field (get_or ys j blank) ≡ field (get_or (take m (drop a xs)) j blank)) → (k : ℕ) → field (get_or (put_mid a m xs ys) k blank) ≡ field (get_or xs k blank)
-  field-around field same k = elim (cases_lt k a) [
+  field_around : (field : CountCell → ℕ) → ((j : ℕ) → field (get_or ys j blank) ≡ field (get_or (take m (drop a xs)) j blank)) → (k : ℕ) → field (get_or (put_mid a m xs ys) k blank) ≡ field (get_or xs k blank)
+  field_around field same k = elim (cases_lt k a) [
     | inl l ↦
         let f = front in
         ap field (get_or_append_left (take a xs) (ys ++ post_of a m xs) blank k (omega arith) ∙ get_or-take a xs k blank l)
@@ -31,12 +31,12 @@ module _ (a m : ℕ) (xs ys : List CountCell) (within : a + m ≤ length xs) (lo
     ]
   ]
 
-  length-around : length (put_mid a m xs ys) ≡ length xs
-  length-around =
+  length_around : length (put_mid a m xs ys) ≡ length xs
+  length_around =
       let f = front in
       let p : length (post_of a m xs) ≡ length xs - a - m = length-drop m (drop a xs) ∙ ap (λ (i : ℕ). i - m) (length-drop a xs) in
       length-append (take a xs) (ys ++ post_of a m xs) ∙ omega (arith, length-append ys (post_of a m xs))
 
-  pub standing-around : (same : ℕ → ℕ → Bool) (score : ℕ → ℕ) (n k : ℕ) → LeavesRanks k (take m (drop a xs)) ys → Standing same score n xs → Standing same score n (put_mid a m xs ys)
-  standing-around same score n k p t =
-      standing_stays same score n xs (put_mid a m xs ys) length-around (field-around (λ c. c.rank) p.rank) (field-around (λ c. c.order) p.order) t
+  pub standing_around : (same : ℕ → ℕ → Bool) (score : ℕ → ℕ) (n k : ℕ) → LeavesRanks k (take m (drop a xs)) ys → Standing same score n xs → Standing same score n (put_mid a m xs ys)
+  standing_around same score n k p t =
+      standing_stays same score n xs (put_mid a m xs ys) length_around (field_around (λ c. c.rank) p.rank) (field_around (λ c. c.order) p.order) t

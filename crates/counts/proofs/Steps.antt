@@ -7,14 +7,14 @@ use Rattle.counts.specs.Tables.{LeavesRanks}
 
 -- one field of every cell, after a write of one cell
 module _ (field : CountCell → ℕ) (cells : List CountCell) (i : ℕ) (c : CountCell) where
-  pub field-same : i < length cells → field (get_or (set cells i c) i blank) ≡ field c
-  field-same l = ap field (get_or-set_same cells i c blank l)
+  pub field_same : i < length cells → field (get_or (set cells i c) i blank) ≡ field c
+  field_same l = ap field (get_or-set_same cells i c blank l)
 
-  pub field-other : (k : ℕ) → k ≢ i → field (get_or (set cells i c) k blank) ≡ field (get_or cells k blank)
-  field-other k ne = ap field (get_or-set_other cells i k c blank ne)
+  pub field_other : (k : ℕ) → k ≢ i → field (get_or (set cells i c) k blank) ≡ field (get_or cells k blank)
+  field_other k ne = ap field (get_or-set_other cells i k c blank ne)
 
-  pub field-kept : i < length cells → field c ≡ field (get_or cells i blank) → (k : ℕ) → field (get_or (set cells i c) k blank) ≡ field (get_or cells k blank)
-  field-kept l e k = elim (cases_eq k i) [ inl q ↦ rw q (field-same l ∙ e) | inr ne ↦ field-other k ne ]
+  pub field_kept : i < length cells → field c ≡ field (get_or cells i blank) → (k : ℕ) → field (get_or (set cells i c) k blank) ≡ field (get_or cells k blank)
+  field_kept l e k = elim (cases_eq k i) [ inl q ↦ rw q (field_same l ∙ e) | inr ne ↦ field_other k ne ]
 
 -- ---- what neither touches ranks nor the cells from n on
 pub leaves_same : (n : ℕ) (cells : List CountCell) → LeavesRanks n cells cells
@@ -32,8 +32,8 @@ pub leaves_set : (n i : ℕ) (cells : List CountCell) (c : CountCell) → i < n 
 leaves_set n i cells c li l r o = record {
   long = length-set cells i c;
   beyond = λ k m. let ne : k ≢ i = omega arith in get_or-set_other cells i k c blank ne;
-  rank = field-kept (λ x. x.rank) cells i c l r;
-  order = field-kept (λ x. x.order) cells i c l o;
+  rank = field_kept (λ x. x.rank) cells i c l r;
+  order = field_kept (λ x. x.order) cells i c l o;
 }
 
 -- ---- item i joins the class of item f
@@ -47,51 +47,51 @@ module _ (cells : List CountCell) (i f : ℕ) (within : i < length cells) (le : 
   abbrev bumped : CountCell
   bumped = with_count (get_or noted f blank) (count_at noted f + 1)
 
-  noted-long : f < length noted
-  noted-long = simp length-set (omega arith)
+  noted_long : f < length noted
+  noted_long = simp length-set (omega arith)
 
-  pub joined-fits : (f < i → count_at cells f ≤ i) → count_at noted f ≤ i
-  joined-fits h = elim (cases_lt f i) [
-    | inl l ↦ let ne : f ≢ i = omega arith in rw (field-other (λ x. x.count) cells i start f ne) (h l)
+  pub joined_fits : (f < i → count_at cells f ≤ i) → count_at noted f ≤ i
+  joined_fits h = elim (cases_lt f i) [
+    | inl l ↦ let ne : f ≢ i = omega arith in rw (field_other (λ x. x.count) cells i start f ne) (h l)
     | inr l ↦ let e : f ≡ i = omega arith in
-        subst (λ (x : ℕ). count_at noted x ≤ i) (sym e) (rw (field-same (λ x. x.count) cells i start within) (omega arith))
+        subst (λ (x : ℕ). count_at noted x ≤ i) (sym e) (rw (field_same (λ x. x.count) cells i start within) (omega arith))
   ]
 
   pub entered_here : first_at (entered cells i f) i ≡ f
   unfolding entered
-  entered_here = field-kept (λ x. x.first) noted f bumped noted-long refl i ∙ field-same (λ x. x.first) cells i start within
+  entered_here = field_kept (λ x. x.first) noted f bumped noted_long refl i ∙ field_same (λ x. x.first) cells i start within
 
-  pub entered-first : (k : ℕ) → k ≢ i → first_at (entered cells i f) k ≡ first_at cells k
+  pub entered_first : (k : ℕ) → k ≢ i → first_at (entered cells i f) k ≡ first_at cells k
   unfolding entered
-  entered-first k ne = field-kept (λ x. x.first) noted f bumped noted-long refl k ∙ field-other (λ x. x.first) cells i start k ne
+  entered_first k ne = field_kept (λ x. x.first) noted f bumped noted_long refl k ∙ field_other (λ x. x.first) cells i start k ne
 
-  pub entered-head : (k : ℕ) → head_at (entered cells i f) k ≡ head_at cells k
+  pub entered_head : (k : ℕ) → head_at (entered cells i f) k ≡ head_at cells k
   unfolding entered
-  entered-head k = field-kept (λ x. x.head) noted f bumped noted-long refl k ∙ field-kept (λ x. x.head) cells i start within refl k
+  entered_head k = field_kept (λ x. x.head) noted f bumped noted_long refl k ∙ field_kept (λ x. x.head) cells i start within refl k
 
-  pub entered-next : (k : ℕ) → next_at (entered cells i f) k ≡ next_at cells k
+  pub entered_next : (k : ℕ) → next_at (entered cells i f) k ≡ next_at cells k
   unfolding entered
-  entered-next k = field-kept (λ x. x.next) noted f bumped noted-long refl k ∙ field-kept (λ x. x.next) cells i start within refl k
+  entered_next k = field_kept (λ x. x.next) noted f bumped noted_long refl k ∙ field_kept (λ x. x.next) cells i start within refl k
 
-  pub entered-joined : f < i → count_at (entered cells i f) f ≡ count_at cells f + 1
+  pub entered_joined : f < i → count_at (entered cells i f) f ≡ count_at cells f + 1
   unfolding entered
-  entered-joined l =
+  entered_joined l =
       let ne : f ≢ i = omega arith in
-      field-same (λ x. x.count) noted f bumped noted-long ∙ ap (λ (x : ℕ). x + 1) (field-other (λ x. x.count) cells i start f ne)
+      field_same (λ x. x.count) noted f bumped noted_long ∙ ap (λ (x : ℕ). x + 1) (field_other (λ x. x.count) cells i start f ne)
 
-  pub entered-new : f ≡ i → count_at (entered cells i f) f ≡ 1
+  pub entered_new : f ≡ i → count_at (entered cells i f) f ≡ 1
   unfolding entered
-  entered-new e =
-      let zero : count_at noted f ≡ 0 = subst (λ (x : ℕ). count_at noted x ≡ 0) (sym e) (field-same (λ x. x.count) cells i start within) in
-      field-same (λ x. x.count) noted f bumped noted-long ∙ ap (λ (x : ℕ). x + 1) zero
+  entered_new e =
+      let zero : count_at noted f ≡ 0 = subst (λ (x : ℕ). count_at noted x ≡ 0) (sym e) (field_same (λ x. x.count) cells i start within) in
+      field_same (λ x. x.count) noted f bumped noted_long ∙ ap (λ (x : ℕ). x + 1) zero
 
-  pub entered-count : (k : ℕ) → k ≢ f → k ≢ i → count_at (entered cells i f) k ≡ count_at cells k
+  pub entered_count : (k : ℕ) → k ≢ f → k ≢ i → count_at (entered cells i f) k ≡ count_at cells k
   unfolding entered
-  entered-count k nf ni = field-other (λ x. x.count) noted f bumped k nf ∙ field-other (λ x. x.count) cells i start k ni
+  entered_count k nf ni = field_other (λ x. x.count) noted f bumped k nf ∙ field_other (λ x. x.count) cells i start k ni
 
-  pub entered-leaves : (n : ℕ) → i < n → LeavesRanks n cells (entered cells i f)
+  pub entered_leaves : (n : ℕ) → i < n → LeavesRanks n cells (entered cells i f)
   unfolding entered
-  entered-leaves n l = leaves_more n cells noted _ (leaves_set n i cells start l within refl refl) (leaves_set n f noted bumped (omega arith) noted-long refl refl)
+  entered_leaves n l = leaves_more n cells noted _ (leaves_set n i cells start l within refl refl) (leaves_set n f noted bumped (omega arith) noted_long refl refl)
 
 -- ---- item i comes first in the chain of bucket b
 module _ (cells : List CountCell) (i b : ℕ) (within : i < length cells) (bucket : b < length cells) where
@@ -104,33 +104,33 @@ module _ (cells : List CountCell) (i b : ℕ) (within : i < length cells) (bucke
   abbrev top : CountCell
   top = with_head (get_or hung b blank) (i + 1)
 
-  hung-long : b < length hung
-  hung-long = simp length-set bucket
+  hung_long : b < length hung
+  hung_long = simp length-set bucket
 
-  pub chained-first : (k : ℕ) → first_at (chained cells i b) k ≡ first_at cells k
+  pub chained_first : (k : ℕ) → first_at (chained cells i b) k ≡ first_at cells k
   unfolding chained
-  chained-first k = field-kept (λ x. x.first) hung b top hung-long refl k ∙ field-kept (λ x. x.first) cells i linked within refl k
+  chained_first k = field_kept (λ x. x.first) hung b top hung_long refl k ∙ field_kept (λ x. x.first) cells i linked within refl k
 
-  pub chained-count : (k : ℕ) → count_at (chained cells i b) k ≡ count_at cells k
+  pub chained_count : (k : ℕ) → count_at (chained cells i b) k ≡ count_at cells k
   unfolding chained
-  chained-count k = field-kept (λ x. x.count) hung b top hung-long refl k ∙ field-kept (λ x. x.count) cells i linked within refl k
+  chained_count k = field_kept (λ x. x.count) hung b top hung_long refl k ∙ field_kept (λ x. x.count) cells i linked within refl k
 
-  pub chained-next : next_at (chained cells i b) i ≡ head_at cells b
+  pub chained_next : next_at (chained cells i b) i ≡ head_at cells b
   unfolding chained
-  chained-next = field-kept (λ x. x.next) hung b top hung-long refl i ∙ field-same (λ x. x.next) cells i linked within
+  chained_next = field_kept (λ x. x.next) hung b top hung_long refl i ∙ field_same (λ x. x.next) cells i linked within
 
-  pub chained-nexts : (k : ℕ) → k ≢ i → next_at (chained cells i b) k ≡ next_at cells k
+  pub chained_nexts : (k : ℕ) → k ≢ i → next_at (chained cells i b) k ≡ next_at cells k
   unfolding chained
-  chained-nexts k ne = field-kept (λ x. x.next) hung b top hung-long refl k ∙ field-other (λ x. x.next) cells i linked k ne
+  chained_nexts k ne = field_kept (λ x. x.next) hung b top hung_long refl k ∙ field_other (λ x. x.next) cells i linked k ne
 
-  pub chained-head : head_at (chained cells i b) b ≡ i + 1
+  pub chained_head : head_at (chained cells i b) b ≡ i + 1
   unfolding chained
-  chained-head = field-same (λ x. x.head) hung b top hung-long
+  chained_head = field_same (λ x. x.head) hung b top hung_long
 
-  pub chained-heads : (k : ℕ) → k ≢ b → head_at (chained cells i b) k ≡ head_at cells k
+  pub chained_heads : (k : ℕ) → k ≢ b → head_at (chained cells i b) k ≡ head_at cells k
   unfolding chained
-  chained-heads k ne = field-other (λ x. x.head) hung b top k ne ∙ field-kept (λ x. x.head) cells i linked within refl k
+  chained_heads k ne = field_other (λ x. x.head) hung b top k ne ∙ field_kept (λ x. x.head) cells i linked within refl k
 
-  pub chained-leaves : (n : ℕ) → i < n → b < n → LeavesRanks n cells (chained cells i b)
+  pub chained_leaves : (n : ℕ) → i < n → b < n → LeavesRanks n cells (chained cells i b)
   unfolding chained
-  chained-leaves n l m = leaves_more n cells hung _ (leaves_set n i cells linked l within refl refl) (leaves_set n b hung top m hung-long refl refl)
+  chained_leaves n l m = leaves_more n cells hung _ (leaves_set n i cells linked l within refl refl) (leaves_set n b hung top m hung_long refl refl)

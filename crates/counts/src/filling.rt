@@ -45,10 +45,10 @@ impl<'a> CountTable<'a> {
 
     // The first item that is the same as item i, of bucket b.
     fn find<I: Items>(&self, items: &I, i: usize, b: usize) -> usize
-        requires inside { i < size items.now }
-        requires bucket { b ≡ code items.now i % size items.now }
-        requires along { State (alike items.now) (code items.now) (size items.now) i self.now.cells.now }
-        ensures { result ≡ (class_of (size items.now) (alike items.now) i).first }
+        requires inside { i < I.size items.now }
+        requires bucket { b ≡ I.code items.now i % I.size items.now }
+        requires along { State (I.alike items.now) (I.code items.now) (I.size items.now) i self.now.cells.now }
+        ensures { result ≡ (class_of (I.size items.now) (I.alike items.now) i).first }
     {
         let mut at = self.cells[b].head;
         while at > 0 {
@@ -63,10 +63,10 @@ impl<'a> CountTable<'a> {
 
     // Adds item i, when those before it are counted.
     fn add<I: Items>(&mut self, items: &I, i: usize)
-        requires inside { i < size items.now }
-        requires along { State (alike items.now) (code items.now) (size items.now) i self.old.cells.now }
-        ensures along { State (alike items.now) (code items.now) (size items.now) (i + 1) self.new.cells.now }
-        ensures rest { LeavesRanks (size items.now) self.old.cells.now self.new.cells.now }
+        requires inside { i < I.size items.now }
+        requires along { State (I.alike items.now) (I.code items.now) (I.size items.now) i self.old.cells.now }
+        ensures along { State (I.alike items.now) (I.code items.now) (I.size items.now) (i + 1) self.new.cells.now }
+        ensures rest { LeavesRanks (I.size items.now) self.old.cells.now self.new.cells.now }
         ensures kept { self.new.cells.ghost_name ≡ self.old.cells.ghost_name }
     {
         let n = items.count();
@@ -92,10 +92,10 @@ impl<'a> CountTable<'a> {
 
     // Counts the items. Where there are fewer cells than items it refuses, and leaves the cells alone.
     pub fn fill<I: Items>(&mut self, items: &I) -> bool
-        ensures refuses { result ≡ nat_le (size items.now) (length self.old.cells.now) }
-        ensures filled { result ≡ true → Filled (alike items.now) (size items.now) self.new.cells.now }
+        ensures refuses { result ≡ nat_le (I.size items.now) (length self.old.cells.now) }
+        ensures filled { result ≡ true → Filled (I.alike items.now) (I.size items.now) self.new.cells.now }
         ensures alone { result ≡ false → self.new.cells.now ≡ self.old.cells.now }
-        ensures rest { LeavesRanks (size items.now) self.old.cells.now self.new.cells.now }
+        ensures rest { LeavesRanks (I.size items.now) self.old.cells.now self.new.cells.now }
         ensures kept { self.new.cells.ghost_name ≡ self.old.cells.ghost_name }
     {
         let n = items.count();

@@ -62,7 +62,7 @@ impl<'a> CountTable<'a> {
 
     // Marks the items of the best class, if it has more than one, and no others that the table was filled with. Does nothing where there are fewer cells than items.
     pub fn mark_best<R: Ranked>(&mut self, items: &R)
-        ensures marks { Filled (R.Items.alike items.now) (R.Items.size items.now) self.old.cells.now → (i : ℕ) → i < R.Items.size items.now → marked_at self.new.cells.now i ≡ of_best (R.Items.size items.now) (R.Items.alike items.now) (score_of (R.Items.size items.now) (R.Items.alike items.now) (worth items.now)) i }
+        ensures marks { Filled (R.Items.alike items.now) (R.Items.size items.now) self.old.cells.now → (i : ℕ) → i < R.Items.size items.now → marked_at self.new.cells.now i ≡ of_best (R.Items.size items.now) (R.Items.alike items.now) (score_of (R.Items.size items.now) (R.Items.alike items.now) (R.worth items.now)) i }
         ensures rest { LeavesUnmarked (R.Items.size items.now) self.old.cells.now self.new.cells.now }
         ensures kept { self.new.cells.ghost_name ≡ self.old.cells.ghost_name }
     {

@@ -32,7 +32,7 @@ impl<'a> CountTable<'a> {
         requires long { R.Items.size items.now ≤ length self.now.cells.now }
         requires inside { c < R.Items.size items.now }
         requires first { listed self.now.cells.now (R.Items.size items.now) c ≡ true }
-        ensures { result ≡ scored (worth items.now) self.now.cells.now c }
+        ensures { result ≡ scored (R.worth items.now) self.now.cells.now c }
     {
         items.score(c, self.cells[c].count)
     }
@@ -41,8 +41,8 @@ impl<'a> CountTable<'a> {
     fn better<R: Ranked>(&self, items: &R, best: Option<Leader>, c: usize) -> Option<Leader>
         requires long { R.Items.size items.now ≤ length self.now.cells.now }
         requires inside { c < R.Items.size items.now }
-        requires along { Leading (listed self.now.cells.now (R.Items.size items.now)) (scored (worth items.now) self.now.cells.now) c best }
-        ensures { Leading (listed self.now.cells.now (R.Items.size items.now)) (scored (worth items.now) self.now.cells.now) (c + 1) result }
+        requires along { Leading (listed self.now.cells.now (R.Items.size items.now)) (scored (R.worth items.now) self.now.cells.now) c best }
+        ensures { Leading (listed self.now.cells.now (R.Items.size items.now)) (scored (R.worth items.now) self.now.cells.now) (c + 1) result }
     {
         if !self.is_listed(items.count(), c) {
             return best;
@@ -58,7 +58,7 @@ impl<'a> CountTable<'a> {
 
     // The class of rank 0 of the items that the table was filled with, in one pass; none where there are no items.
     pub fn best<R: Ranked>(&self, items: &R) -> Option<Class>
-        ensures value { Filled (R.Items.alike items.now) (R.Items.size items.now) self.now.cells.now → 0 < R.Items.size items.now → result ≡ Some (class_ranked (R.Items.size items.now) (R.Items.alike items.now) (score_of (R.Items.size items.now) (R.Items.alike items.now) (worth items.now)) 0) }
+        ensures value { Filled (R.Items.alike items.now) (R.Items.size items.now) self.now.cells.now → 0 < R.Items.size items.now → result ≡ Some (class_ranked (R.Items.size items.now) (R.Items.alike items.now) (score_of (R.Items.size items.now) (R.Items.alike items.now) (R.worth items.now)) 0) }
         ensures none { R.Items.size items.now ≡ 0 → result ≡ None }
     {
         let n = items.count();
@@ -134,7 +134,7 @@ impl<'a> CountTable<'a> {
     // Ranks the classes of the items that the table was filled with; how many there are. Does nothing, and says 0, where there are fewer cells than items.
     pub fn rank<R: Ranked>(&mut self, items: &R) -> usize
         ensures count { Filled (R.Items.alike items.now) (R.Items.size items.now) self.old.cells.now → result ≡ classes (R.Items.size items.now) (R.Items.alike items.now) }
-        ensures ranked { Filled (R.Items.alike items.now) (R.Items.size items.now) self.old.cells.now → Standing (R.Items.alike items.now) (score_of (R.Items.size items.now) (R.Items.alike items.now) (worth items.now)) (R.Items.size items.now) self.new.cells.now }
+        ensures ranked { Filled (R.Items.alike items.now) (R.Items.size items.now) self.old.cells.now → Standing (R.Items.alike items.now) (score_of (R.Items.size items.now) (R.Items.alike items.now) (R.worth items.now)) (R.Items.size items.now) self.new.cells.now }
         ensures alone { length self.old.cells.now < R.Items.size items.now → (result ≡ 0) × (self.new.cells.now ≡ self.old.cells.now) }
         ensures rest { LeavesCounts (R.Items.size items.now) self.old.cells.now self.new.cells.now }
         ensures kept { self.new.cells.ghost_name ≡ self.old.cells.ghost_name }

@@ -28,8 +28,8 @@ axis_count_granted n = (λ e. ltb-false most_axes n (none_applies (axis_count_co
 -- Glyph calls
 
 module _ (A : Account) (n : ℕ) where
-  glyph-reason : (d : Declined) → refusal A (glyph n) ≡ some d → GlyphRefused A n d
-  glyph-reason d = by (ltb 65534 n) (begun n A.glyphs) (ltb A.free.glyph 1) refl refl refl
+  glyph_reason : (d : Declined) → refusal A (glyph n) ≡ some d → GlyphRefused A n d
+  glyph_reason d = by (ltb 65534 n) (begun n A.glyphs) (ltb A.free.glyph 1) refl refl refl
     where
       by : (b c e : Bool) → ltb 65534 n ≡ b → begun n A.glyphs ≡ c → ltb A.free.glyph 1 ≡ e →
           first_of (iff b (by_set 2 (some n) none) ∷ iff c (by_set 3 (some n) none) ∷ iff e (by_set 9 (some n) none) ∷ []) ≡ some d → GlyphRefused A n d
@@ -38,16 +38,16 @@ module _ (A : Account) (n : ℕ) where
       by false false true p q r h = subst (GlyphRefused A n) (some_same (by_set 9 (some n) none) d h) (no_glyph_cell (ltb-false 65534 n p) q (ltb-true A.free.glyph 1 r))
       by false false false p q r h = none_some d h
 
-  reason-glyph : (d : Declined) → GlyphRefused A n d → refusal A (glyph n) ≡ some d
-  reason-glyph _ (large_number l) = rw (lt-ltb 65534 n l)
-  reason-glyph _ (begun_before l e) = rw (le-ltb 65534 n l, e)
-  reason-glyph _ (no_glyph_cell l e f) = rw (le-ltb 65534 n l, e, lt-ltb A.free.glyph 1 f)
+  reason_glyph : (d : Declined) → GlyphRefused A n d → refusal A (glyph n) ≡ some d
+  reason_glyph _ (large_number l) = rw (lt-ltb 65534 n l)
+  reason_glyph _ (begun_before l e) = rw (le-ltb 65534 n l, e)
+  reason_glyph _ (no_glyph_cell l e f) = rw (le-ltb 65534 n l, e, lt-ltb A.free.glyph 1 f)
 
-  pub glyph-refused : (d : Declined) → refusal A (glyph n) ≡ some d ↔ GlyphRefused A n d
-  glyph-refused d = (glyph-reason d, reason-glyph d)
+  pub glyph_refused : (d : Declined) → refusal A (glyph n) ≡ some d ↔ GlyphRefused A n d
+  glyph_refused d = (glyph_reason d, reason_glyph d)
 
-  pub glyph-granted : refusal A (glyph n) ≡ none ↔ GlyphGranted A n
-  glyph-granted = (
+  pub glyph_granted : refusal A (glyph n) ≡ none ↔ GlyphGranted A n
+  glyph_granted = (
     λ e.
         let o = none_applies (glyph_conditions A n) e in
         record { number_fits = ltb-false 65534 n o.0; not_begun = o.1.0; cell_free = ltb-false A.free.glyph 1 o.1.1.0 },
@@ -79,36 +79,36 @@ count_other (v ∷ vs) n h = not_from_false (eqb (length v.deltas) n) (ne_eqb (l
 
 module _ (A : Account) (ts : List Given) (ds : List Delta) where
   -- too few free cells of a kind, and of any
-  abbrev few-variation : Bool
-  few-variation = ltb A.free.variation 1
+  abbrev few_variation : Bool
+  few_variation = ltb A.free.variation 1
 
-  abbrev few-axis : Bool
-  few-axis = ltb A.free.axis (3 * A.axes)
+  abbrev few_axis : Bool
+  few_axis = ltb A.free.axis (3 * A.axes)
 
-  abbrev few-delta : Bool
-  few-delta = ltb A.free.delta (length ds)
+  abbrev few_delta : Bool
+  few_delta = ltb A.free.delta (length ds)
 
   abbrev few : Bool
-  few = few-variation || few-axis || few-delta
+  few = few_variation || few_axis || few_delta
 
   abbrev Few : Type 0
   Few = (A.free.variation < 1) ⊎ ((A.free.axis < 3 * A.axes) ⊎ (A.free.delta < length ds))
 
-  cells-few : few ≡ true → Few
-  cells-few e = outer (or_cases (few-variation || few-axis) few-delta e)
+  cells_few : few ≡ true → Few
+  cells_few e = outer (or_cases (few_variation || few_axis) few_delta e)
     where
-      inner : (few-variation ≡ true) ⊎ (few-axis ≡ true) → Few
+      inner : (few_variation ≡ true) ⊎ (few_axis ≡ true) → Few
       inner (inl p) = inl (ltb-true A.free.variation 1 p)
       inner (inr p) = inr (inl (ltb-true A.free.axis (3 * A.axes) p))
 
-      outer : ((few-variation || few-axis) ≡ true) ⊎ (few-delta ≡ true) → Few
-      outer (inl p) = inner (or_cases few-variation few-axis p)
+      outer : ((few_variation || few_axis) ≡ true) ⊎ (few_delta ≡ true) → Few
+      outer (inl p) = inner (or_cases few_variation few_axis p)
       outer (inr p) = inr (inr (ltb-true A.free.delta (length ds) p))
 
-  few-of-cells : Few → few ≡ true
-  few-of-cells (inl p) = or_left (few-variation || few-axis) few-delta (or_left few-variation few-axis (lt-ltb A.free.variation 1 p))
-  few-of-cells (inr (inl p)) = or_left (few-variation || few-axis) few-delta (or_right few-variation few-axis (lt-ltb A.free.axis (3 * A.axes) p))
-  few-of-cells (inr (inr p)) = or_right (few-variation || few-axis) few-delta (lt-ltb A.free.delta (length ds) p)
+  few_of_cells : Few → few ≡ true
+  few_of_cells (inl p) = or_left (few_variation || few_axis) few_delta (or_left few_variation few_axis (lt-ltb A.free.variation 1 p))
+  few_of_cells (inr (inl p)) = or_left (few_variation || few_axis) few_delta (or_right few_variation few_axis (lt-ltb A.free.axis (3 * A.axes) p))
+  few_of_cells (inr (inr p)) = or_right (few_variation || few_axis) few_delta (lt-ltb A.free.delta (length ds) p)
 
   -- to the glyph begun last
   module _ (g : Glyph) where
@@ -128,7 +128,7 @@ module _ (A : Account) (ts : List Given) (ds : List Delta) where
     reason d false false false true h p q r s t k =
         (8, many_variations (tents p) (ltb-false 32767 (length ds) q) (as_many g.variations (length ds) r) (leb-true 4095 (length g.variations) s), some_same (named 8) d k)
     reason d false false false false true p q r s t k =
-        (9, few_cells (tents p) (ltb-false 32767 (length ds) q) (as_many g.variations (length ds) r) (leb-false 4095 (length g.variations) s) (cells-few t), some_same (named 9) d k)
+        (9, few_cells (tents p) (ltb-false 32767 (length ds) q) (as_many g.variations (length ds) r) (leb-false 4095 (length g.variations) s) (cells_few t), some_same (named 9) d k)
     reason d false false false false false p q r s t k = none_some d k
 
   abbrev to : Option Glyph → List Condition
@@ -141,12 +141,12 @@ module _ (A : Account) (ts : List Given) (ds : List Delta) where
       ∷ iff few (named g 9)
       ∷ []
 
-  conditions-to : (o : Option Glyph) → last A.glyphs ≡ o → variation_conditions A ts ds ≡ to o
-  conditions-to none e = rw e
-  conditions-to (some g) e = rw e
+  conditions_to : (o : Option Glyph) → last A.glyphs ≡ o → variation_conditions A ts ds ≡ to o
+  conditions_to none e = rw e
+  conditions_to (some g) e = rw e
 
-  variation-reason : (d : Declined) → refusal A (variation ts ds) ≡ some d → VariationRefused A ts ds d
-  variation-reason d e = by (last A.glyphs) refl (sym (ap first_of (conditions-to (last A.glyphs) refl)) ∙ e)
+  variation_reason : (d : Declined) → refusal A (variation ts ds) ≡ some d → VariationRefused A ts ds d
+  variation_reason d e = by (last A.glyphs) refl (sym (ap first_of (conditions_to (last A.glyphs) refl)) ∙ e)
     where
       by : (o : Option Glyph) → last A.glyphs ≡ o → first_of (to o) ≡ some d → VariationRefused A ts ds d
       by none q h = subst (VariationRefused A ts ds) (some_same (by_set 4 none none) d h) (no_glyph (last_none A.glyphs q))
@@ -162,24 +162,24 @@ module _ (A : Account) (ts : List Given) (ds : List Delta) where
   numbered g _ (many_variations p q r s) =
       rw (eq-eqb (length ts) A.axes p, le-ltb 32767 (length ds) q, same_count g.variations (length ds) r, le-leb 4095 (length g.variations) s)
   numbered g _ (few_cells p q r s t) =
-      rw (eq-eqb (length ts) A.axes p, le-ltb 32767 (length ds) q, same_count g.variations (length ds) r, lt-leb 4095 (length g.variations) s, few-of-cells t)
+      rw (eq-eqb (length ts) A.axes p, le-ltb 32767 (length ds) q, same_count g.variations (length ds) r, lt-leb 4095 (length g.variations) s, few_of_cells t)
 
-  reason-variation : (d : Declined) → VariationRefused A ts ds d → refusal A (variation ts ds) ≡ some d
-  reason-variation _ (no_glyph e) = ap first_of (conditions-to none (ap last e))
-  reason-variation _ (not_added g n q k) = ap first_of (conditions-to (some g) q) ∙ numbered g n k
+  reason_variation : (d : Declined) → VariationRefused A ts ds d → refusal A (variation ts ds) ≡ some d
+  reason_variation _ (no_glyph e) = ap first_of (conditions_to none (ap last e))
+  reason_variation _ (not_added g n q k) = ap first_of (conditions_to (some g) q) ∙ numbered g n k
 
-  pub variation-refused : (d : Declined) → refusal A (variation ts ds) ≡ some d ↔ VariationRefused A ts ds d
-  variation-refused d = (variation-reason d, reason-variation d)
+  pub variation_refused : (d : Declined) → refusal A (variation ts ds) ≡ some d ↔ VariationRefused A ts ds d
+  variation_refused d = (variation_reason d, reason_variation d)
 
-  bounds-met : refusal A (variation ts ds) ≡ none → VariationGranted A ts ds
-  bounds-met e = by (last A.glyphs) refl (sym (ap first_of (conditions-to (last A.glyphs) refl)) ∙ e)
+  bounds_met : refusal A (variation ts ds) ≡ none → VariationGranted A ts ds
+  bounds_met e = by (last A.glyphs) refl (sym (ap first_of (conditions_to (last A.glyphs) refl)) ∙ e)
     where
       by : (o : Option Glyph) → last A.glyphs ≡ o → first_of (to o) ≡ none → VariationGranted A ts ds
       by none q h = none_some (by_set 4 none none) (sym h)
       by (some g) q h =
           let o = none_applies (to (some g)) h in
-          let c = or_parts (few-variation || few-axis) few-delta o.1.1.1.1.0 in
-          let k = or_parts few-variation few-axis c.0 in
+          let c = or_parts (few_variation || few_axis) few_delta o.1.1.1.1.0 in
+          let k = or_parts few_variation few_axis c.0 in
           record {
             begun_last = g;
             is_last = q;
@@ -192,10 +192,10 @@ module _ (A : Account) (ts : List Given) (ds : List Delta) where
             delta_cells_free = ltb-false A.free.delta (length ds) c.1;
           }
 
-  met-bounds : VariationGranted A ts ds → refusal A (variation ts ds) ≡ none
-  met-bounds v =
+  met_bounds : VariationGranted A ts ds → refusal A (variation ts ds) ≡ none
+  met_bounds v =
       let g = v.begun_last in
-      ap first_of (conditions-to (some g) v.is_last)
+      ap first_of (conditions_to (some g) v.is_last)
       ∙ all_pass (to (some g)) (
         not_from_true (eqb (length ts) A.axes) (eq-eqb (length ts) A.axes v.a_tent_for_each_axis),
         (
@@ -205,8 +205,8 @@ module _ (A : Account) (ts : List Given) (ds : List Delta) where
             (
               lt-leb 4095 (length g.variations) v.variations_fit,
               (
-                or_from (few-variation || few-axis) few-delta
-                    (or_from few-variation few-axis (le-ltb A.free.variation 1 v.variation_cell_free) (le-ltb A.free.axis (3 * A.axes) v.axis_cells_free))
+                or_from (few_variation || few_axis) few_delta
+                    (or_from few_variation few_axis (le-ltb A.free.variation 1 v.variation_cell_free) (le-ltb A.free.axis (3 * A.axes) v.axis_cells_free))
                     (le-ltb A.free.delta (length ds) v.delta_cells_free),
                 tt,
               ),
@@ -215,5 +215,5 @@ module _ (A : Account) (ts : List Given) (ds : List Delta) where
         ),
       )
 
-  pub variation-granted : refusal A (variation ts ds) ≡ none ↔ VariationGranted A ts ds
-  variation-granted = (bounds-met, met-bounds)
+  pub variation_granted : refusal A (variation ts ds) ≡ none ↔ VariationGranted A ts ds
+  variation_granted = (bounds_met, met_bounds)

@@ -11,9 +11,9 @@ use Rattle.format.specs.Table.{glyphs_bytes, even_total, numbers_full, variation
 use Rattle.format.specs.Answers.{by_set, Countable, SizesFit, NotCompiled, missing_numbers, few_count_cells, long_data, long_headers, long_glyphs, long_table, CompileGranted, NumbersOfACall, GrantedMetNone}
 use Rattle.format.proofs.Conditions.{Off, none_applies, all_pass}
 use Rattle.format.proofs.Firsts.{some_same, none_some, first_left, first_after, first_either, FirstAmong, first_among, among_first, none_among}
-use Rattle.format.proofs.Lists.{all-parts, all-joined}
-use Rattle.format.proofs.CallAnswers.{axis_count_refused, axis_count_granted, glyph-refused, glyph-granted, variation-refused, variation-granted}
-use Rattle.format.proofs.SizeAnswers.{of-sizes, sizes_fit, fit-sizes, Long-data, Long-headers, size-reason, long-data-first, long-headers-first}
+use Rattle.format.proofs.Lists.{all_parts, all_joined}
+use Rattle.format.proofs.CallAnswers.{axis_count_refused, axis_count_granted, glyph_refused, glyph_granted, variation_refused, variation_granted}
+use Rattle.format.proofs.SizeAnswers.{of_sizes, sizes_fit, fit_sizes, LongData, LongHeaders, size_reason, long_data_first, long_headers_first}
 
 -- The conditions, in three parts
 
@@ -22,7 +22,7 @@ module _ (a : ℕ) (gs : List Glyph) (cells allowance : ℕ) where
   Reason = NotCompiled a gs cells allowance
 
   abbrev sizes : List Condition
-  sizes = joined (listed 0 (length gs) (λ n. of-sizes gs n))
+  sizes = joined (listed 0 (length gs) (λ n. of_sizes gs n))
 
   abbrev ends : List Condition
   ends =
@@ -35,28 +35,28 @@ module _ (a : ℕ) (gs : List Glyph) (cells allowance : ℕ) where
 
   -- Refused
 
-  fit-among : (d : Declined) (f : FirstAmong 0 (length gs) (λ n. of-sizes gs n) d) → (m : ℕ) → m < f.place → SizesFit gs m
-  fit-among d f m l = sizes_fit gs m (f.off_before m m (omega arith) l)
+  fit_among : (d : Declined) (f : FirstAmong 0 (length gs) (λ n. of_sizes gs n) d) → (m : ℕ) → m < f.place → SizesFit gs m
+  fit_among d f m l = sizes_fit gs m (f.off_before m m (omega arith) l)
 
   -- 12 and 13
-  of_one : Countable gs cells → (d : Declined) → FirstAmong 0 (length gs) (λ n. of-sizes gs n) d → Reason d
+  of_one : Countable gs cells → (d : Declined) → FirstAmong 0 (length gs) (λ n. of_sizes gs n) d → Reason d
   of_one c d f =
       let s : f.at ≡ f.place = omega (arith, f.is) in
-      by f.place f.inside (fit-among d f) (size-reason gs f.place d (subst (λ (n : ℕ). first_of (of-sizes gs n) ≡ some d) s f.answers))
+      by f.place f.inside (fit_among d f) (size_reason gs f.place d (subst (λ (n : ℕ). first_of (of_sizes gs n) ≡ some d) s f.answers))
     where
-      by : (n : ℕ) → n < length gs → ((m : ℕ) → m < n → SizesFit gs m) → Long-data gs n d ⊎ Long-headers gs n d → Reason d
-      by n l h (inl p) = subst Reason p.named (long_data n p.which c l h p.inside p.fit-before p.long)
+      by : (n : ℕ) → n < length gs → ((m : ℕ) → m < n → SizesFit gs m) → LongData gs n d ⊎ LongHeaders gs n d → Reason d
+      by n l h (inl p) = subst Reason p.named (long_data n p.which c l h p.inside p.fit_before p.long)
       by n l h (inr p) = subst Reason p.2 (long_headers n c l h p.0 p.1)
 
   all_fit : All Off sizes → (n : ℕ) → n < length gs → SizesFit gs n
-  all_fit h n l = sizes_fit gs n (all-joined Off (length gs) 0 (λ n. of-sizes gs n) h n n (omega arith) l)
+  all_fit h n l = sizes_fit gs n (all_joined Off (length gs) 0 (λ n. of_sizes gs n) h n n (omega arith) l)
 
   fit_all : ((n : ℕ) → n < length gs → SizesFit gs n) → All Off sizes
-  fit_all h = none_among (length gs) 0 (λ n. of-sizes gs n) (λ j m e l. fit-sizes gs m (h m (omega arith)))
+  fit_all h = none_among (length gs) 0 (λ n. of_sizes gs n) (λ j m e l. fit_sizes gs m (h m (omega arith)))
 
   -- 14 and 15
-  of-ends : Countable gs cells → ((n : ℕ) → n < length gs → SizesFit gs n) → (d : Declined) → first_of ends ≡ some d → Reason d
-  of-ends c h d = by (ltb 67108864 (even_total (glyphs_bytes gs))) (ltb allowance (length (table_bytes a gs))) refl refl
+  of_ends : Countable gs cells → ((n : ℕ) → n < length gs → SizesFit gs n) → (d : Declined) → first_of ends ≡ some d → Reason d
+  of_ends c h d = by (ltb 67108864 (even_total (glyphs_bytes gs))) (ltb allowance (length (table_bytes a gs))) refl refl
     where
       by : (b e : Bool) → ltb 67108864 (even_total (glyphs_bytes gs)) ≡ b → ltb allowance (length (table_bytes a gs)) ≡ e →
           first_of (iff b (by_set 14 none none) ∷ iff e (by_set 15 none none) ∷ []) ≡ some d → Reason d
@@ -65,12 +65,12 @@ module _ (a : ℕ) (gs : List Glyph) (cells allowance : ℕ) where
           subst Reason (some_same (by_set 15 none none) d k) (long_table c h (ltb-false 67108864 (even_total (glyphs_bytes gs)) p) (ltb-true allowance (length (table_bytes a gs)) q))
       by false false p q k = none_some d k
 
-  reason-of : (d : Declined) → first_of conditions ≡ some d → Reason d
-  reason-of d = by (numbers_full gs) (ltb cells (variation_count gs)) refl refl
+  reason_of : (d : Declined) → first_of conditions ≡ some d → Reason d
+  reason_of d = by (numbers_full gs) (ltb cells (variation_count gs)) refl refl
     where
       rest : Countable gs cells → (first_of sizes ≡ some d) ⊎ (All Off sizes × (first_of ends ≡ some d)) → Reason d
-      rest c (inl p) = of_one c d (first_among (length gs) 0 (λ n. of-sizes gs n) d p)
-      rest c (inr p) = of-ends c (all_fit p.0) d p.1
+      rest c (inl p) = of_one c d (first_among (length gs) 0 (λ n. of_sizes gs n) d p)
+      rest c (inr p) = of_ends c (all_fit p.0) d p.1
 
       by : (b e : Bool) → numbers_full gs ≡ b → ltb cells (variation_count gs) ≡ e →
           first_of (iff (not b) (by_set 10 none none) ∷ iff e (by_set 11 none none) ∷ (sizes ++ ends)) ≡ some d → Reason d
@@ -82,26 +82,26 @@ module _ (a : ℕ) (gs : List Glyph) (cells allowance : ℕ) where
   past : Countable gs cells → first_of conditions ≡ first_of (sizes ++ ends)
   past c = rw (c.0, le-ltb cells (variation_count gs) c.1)
 
-  among : Countable gs cells → (n : ℕ) (d : Declined) → n < length gs → ((m : ℕ) → m < n → SizesFit gs m) → first_of (of-sizes gs n) ≡ some d → first_of conditions ≡ some d
+  among : Countable gs cells → (n : ℕ) (d : Declined) → n < length gs → ((m : ℕ) → m < n → SizesFit gs m) → first_of (of_sizes gs n) ≡ some d → first_of conditions ≡ some d
   among c n d l h e =
       past c ∙ first_left sizes ends d
-      (among_first (length gs) 0 (λ n. of-sizes gs n) d n n (omega arith) l (λ j m q b. fit-sizes gs m (h m (omega arith))) e)
+      (among_first (length gs) 0 (λ n. of_sizes gs n) d n n (omega arith) l (λ j m q b. fit_sizes gs m (h m (omega arith))) e)
 
-  of-reason : (d : Declined) → Reason d → first_of conditions ≡ some d
-  of-reason _ (missing_numbers e) = rw e
-  of-reason _ (few_count_cells e l) = rw (e, lt-ltb cells (variation_count gs) l)
-  of-reason _ (long_data n i c l h k f m) = among c n (by_set 12 (some n) (some i)) l h (long-data-first gs n i k f m)
-  of-reason _ (long_headers n c l h f m) = among c n (by_set 13 (some n) none) l h (long-headers-first gs n f m)
-  of-reason _ (long_glyphs c h m) = past c ∙ first_after sizes ends (fit_all h) ∙ rw (lt-ltb 67108864 (even_total (glyphs_bytes gs)) m)
-  of-reason _ (long_table c h l m) =
+  of_reason : (d : Declined) → Reason d → first_of conditions ≡ some d
+  of_reason _ (missing_numbers e) = rw e
+  of_reason _ (few_count_cells e l) = rw (e, lt-ltb cells (variation_count gs) l)
+  of_reason _ (long_data n i c l h k f m) = among c n (by_set 12 (some n) (some i)) l h (long_data_first gs n i k f m)
+  of_reason _ (long_headers n c l h f m) = among c n (by_set 13 (some n) none) l h (long_headers_first gs n f m)
+  of_reason _ (long_glyphs c h m) = past c ∙ first_after sizes ends (fit_all h) ∙ rw (lt-ltb 67108864 (even_total (glyphs_bytes gs)) m)
+  of_reason _ (long_table c h l m) =
       past c ∙ first_after sizes ends (fit_all h) ∙ rw (le-ltb 67108864 (even_total (glyphs_bytes gs)) l, lt-ltb allowance (length (table_bytes a gs)) m)
 
   -- Granted
 
-  bounds-met : first_of conditions ≡ none → CompileGranted a gs cells allowance (length (table_bytes a gs))
-  bounds-met e =
+  bounds_met : first_of conditions ≡ none → CompileGranted a gs cells allowance (length (table_bytes a gs))
+  bounds_met e =
       let o = none_applies conditions e in
-      let p = all-parts Off sizes ends o.1.1 in
+      let p = all_parts Off sizes ends o.1.1 in
       record {
         countable = (not-false (numbers_full gs) o.0, ltb-false cells (variation_count gs) o.1.0);
         sizes_fit = all_fit p.0;
@@ -110,8 +110,8 @@ module _ (a : ℕ) (gs : List Glyph) (cells allowance : ℕ) where
         whole_table = refl;
       }
 
-  met-bounds : (n : ℕ) → CompileGranted a gs cells allowance n → first_of conditions ≡ none
-  met-bounds n g =
+  met_bounds : (n : ℕ) → CompileGranted a gs cells allowance n → first_of conditions ≡ none
+  met_bounds n g =
       all_pass conditions (
         not_from_true (numbers_full gs) g.countable.0,
         (
@@ -137,24 +137,24 @@ module _ (A : Account) (cells allowance : ℕ) where
   abbrev size : ℕ
   size = length (table_bytes A.axes A.glyphs)
 
-  compile-refused : (d : Declined) → compile_answer A cells allowance ≡ refused d ↔ NotCompiled A.axes A.glyphs cells allowance d
+  compile_refused : (d : Declined) → compile_answer A cells allowance ≡ refused d ↔ NotCompiled A.axes A.glyphs cells allowance d
   unfolding compile_answer
-  compile-refused d = (
-    λ e. reason-of A.axes A.glyphs cells allowance d (answer_refused size (first_of (compile_conditions A cells allowance)) d e),
-    λ r. ap (answered size) (of-reason A.axes A.glyphs cells allowance d r),
+  compile_refused d = (
+    λ e. reason_of A.axes A.glyphs cells allowance d (answer_refused size (first_of (compile_conditions A cells allowance)) d e),
+    λ r. ap (answered size) (of_reason A.axes A.glyphs cells allowance d r),
   )
 
-  compile-granted : (n : ℕ) → compile_answer A cells allowance ≡ granted n ↔ CompileGranted A.axes A.glyphs cells allowance n
+  compile_granted : (n : ℕ) → compile_answer A cells allowance ≡ granted n ↔ CompileGranted A.axes A.glyphs cells allowance n
   unfolding compile_answer
-  compile-granted n = (
+  compile_granted n = (
     λ e.
         let r = answer_granted size n (first_of (compile_conditions A cells allowance)) e in
-        subst (CompileGranted A.axes A.glyphs cells allowance) r.1 (bounds-met A.axes A.glyphs cells allowance r.0),
-    λ g. ap (answered size) (met-bounds A.axes A.glyphs cells allowance n g) ∙ ap granted (sym g.whole_table),
+        subst (CompileGranted A.axes A.glyphs cells allowance) r.1 (bounds_met A.axes A.glyphs cells allowance r.0),
+    λ g. ap (answered size) (met_bounds A.axes A.glyphs cells allowance n g) ∙ ap granted (sym g.whole_table),
   )
 
 pub numbers_of_a_call : NumbersOfACall
-numbers_of_a_call = record { of_axis_count = axis_count_refused; of_glyph = glyph-refused; of_variation = variation-refused; of_compile = compile-refused }
+numbers_of_a_call = record { of_axis_count = axis_count_refused; of_glyph = glyph_refused; of_variation = variation_refused; of_compile = compile_refused }
 
 pub granted_met_none : GrantedMetNone
-granted_met_none = record { of_axis_count = axis_count_granted; of_glyph = glyph-granted; of_variation = variation-granted; of_compile = compile-granted }
+granted_met_none = record { of_axis_count = axis_count_granted; of_glyph = glyph_granted; of_variation = variation_granted; of_compile = compile_granted }

@@ -141,11 +141,11 @@ module _ (n : ℕ) (f : ℕ → Bool) (rk : ℕ → ℕ) (apart : (c d : ℕ) �
       apart i j l k p.0 q.0 (eqb-true (rk i) m p.1 ∙ sym (eqb-true (rk j) m q.1)))
 
   -- without the number r, one less
-  under-most : (r : ℕ) → at r ≡ 0 → (m : ℕ) → under m + cond (ltb r m) 1 0 ≤ m
-  under-most r z zero =
+  under_most : (r : ℕ) → at r ≡ 0 → (m : ℕ) → under m + cond (ltb r m) 1 0 ≤ m
+  under_most r z zero =
       let o = count_none n (λ c. f c && ltb (rk c) 0) (λ i l. grind (arith, nat_tests)) in
       rw (le-ltb r 0 (omega arith), o) (omega arith)
-  under-most r z (suc m) = by (cases_order m r) (under-most r z m)
+  under_most r z (suc m) = by (cases_order m r) (under_most r z m)
     where
       by : (m ≡ r) ⊎ ((m < r) ⊎ (r < m)) → under m + cond (ltb r m) 1 0 ≤ m → under (suc m) + cond (ltb r (suc m)) 1 0 ≤ suc m
       by (inl s) i =
@@ -159,8 +159,8 @@ module _ (n : ℕ) (f : ℕ → Bool) (rk : ℕ → ℕ) (apart : (c d : ℕ) �
           let i' : under m + 1 ≤ m = rw (lt-ltb r m s) at i in
           rw (lt-ltb r (suc m) (omega arith)) (omega (arith, i', under_more m, at_one m))
 
-  pub each-given : ((c : ℕ) → c < n → f c ≡ true → rk c < count_below n f) → (r : ℕ) → r < count_below n f → first_below n (λ c. f c && eqb (rk c) r) < n
-  each-given h r l = by (first_tells n (λ c. f c && eqb (rk c) r))
+  pub each_given : ((c : ℕ) → c < n → f c ≡ true → rk c < count_below n f) → (r : ℕ) → r < count_below n f → first_below n (λ c. f c && eqb (rk c) r) < n
+  each_given h r l = by (first_tells n (λ c. f c && eqb (rk c) r))
     where
       all_under : count_below n f ≤ under (count_below n f)
       all_under = count_more n f (λ c. f c && ltb (rk c) (count_below n f)) (λ i k e. and_from (f i) (ltb (rk i) (count_below n f)) e (lt-ltb (rk i) (count_below n f) (h i k e)))
@@ -168,6 +168,6 @@ module _ (n : ℕ) (f : ℕ → Bool) (rk : ℕ → ℕ) (apart : (c d : ℕ) �
       by : (first_below n (λ c. f c && eqb (rk c) r) < n) ⊎ ((i : ℕ) → i < n → (f i && eqb (rk i) r) ≡ false) → first_below n (λ c. f c && eqb (rk c) r) < n
       by (inl k) = k
       by (inr z) =
-          let i = under-most r (count_none n (λ c. f c && eqb (rk c) r) z) (count_below n f) in
+          let i = under_most r (count_none n (λ c. f c && eqb (rk c) r) z) (count_below n f) in
           let i' : under (count_below n f) + 1 ≤ count_below n f = rw (lt-ltb r (count_below n f) l) at i in
           absurd (omega (arith, all_under))

@@ -7,7 +7,7 @@ use Rattle.format.specs.Bytes.{joined}
 use Rattle.format.specs.Account.{Variation, Declined, Condition, first_of}
 use Rattle.format.specs.Packed.{Points}
 use Rattle.format.specs.Streams.{rest, found}
-use Rattle.format.specs.Reader.{Checked, Header, Entry, is_embedded, peak_index, read_header, read-headers, peak-conditions, at_entry, read_entry, read_entries}
+use Rattle.format.specs.Reader.{Checked, Header, Entry, is_embedded, peak_index, read_header, read_headers, peak_conditions, at_entry, read_entry, read_entries}
 use Rattle.format.specs.Promise.{InStep, GivesBack}
 use Rattle.format.proofs.Gives.{front_taken, front_dropped}
 
@@ -17,27 +17,27 @@ headers_at bytes header [] at = []
 headers_at bytes header (v ∷ vs) at = header v at ∷ headers_at bytes header vs (at + length (bytes v))
 
 module _ (g a : ℕ) (bytes : Variation → List ℕ) (header : Variation → ℕ → Header) where
-  pub headers-back :
+  pub headers_back :
       (i : ℕ) (vs : List Variation) (r : List ℕ) (at : ℕ) →
       All (λ v. (r : List ℕ) (at : ℕ) → read_header a (bytes v ++ r) at ≡ some (rest (header v at) r (at + length (bytes v)))) vs →
-      read-headers g a i (length vs) (joined (map bytes vs) ++ r) at ≡ found (rest (headers_at bytes header vs at) r (at + length (joined (map bytes vs))))
-  headers-back i [] r at h = rw add-zero
-  headers-back i (v ∷ vs) r at h =
-      rw (append_assoc (bytes v) (joined (map bytes vs)) r, h.0 (joined (map bytes vs) ++ r) at, headers-back (suc i) vs r (at + length (bytes v)) h.1)
+      read_headers g a i (length vs) (joined (map bytes vs) ++ r) at ≡ found (rest (headers_at bytes header vs at) r (at + length (joined (map bytes vs))))
+  headers_back i [] r at h = rw add-zero
+  headers_back i (v ∷ vs) r at h =
+      rw (append_assoc (bytes v) (joined (map bytes vs)) r, h.0 (joined (map bytes vs) ++ r) at, headers_back (suc i) vs r (at + length (bytes v)) h.1)
       (ap (λ (n : ℕ). found (rest (header v at ∷ headers_at bytes header vs (at + length (bytes v))) r n)) (omega (arith, length-append (bytes v) (joined (map bytes vs)))))
 
-  pub headers-all : (P : Header → Type 0) (vs : List Variation) (at : ℕ) → All (λ v. (at : ℕ) → P (header v at)) vs → All P (headers_at bytes header vs at)
-  headers-all P [] at h = tt
-  headers-all P (v ∷ vs) at h = (h.0 at, headers-all P vs (at + length (bytes v)) h.1)
+  pub headers_all : (P : Header → Type 0) (vs : List Variation) (at : ℕ) → All (λ v. (at : ℕ) → P (header v at)) vs → All P (headers_at bytes header vs at)
+  headers_all P [] at h = tt
+  headers_all P (v ∷ vs) at h = (h.0 at, headers_all P vs (at + length (bytes v)) h.1)
 
-  pub headers-in-step : (R : Variation → Header → Type 0) (vs : List Variation) (at : ℕ) → All (λ v. (at : ℕ) → R v (header v at)) vs → InStep R vs (headers_at bytes header vs at)
-  headers-in-step R [] at h = tt
-  headers-in-step R (v ∷ vs) at h = (h.0 at, headers-in-step R vs (at + length (bytes v)) h.1)
+  pub headers_in_step : (R : Variation → Header → Type 0) (vs : List Variation) (at : ℕ) → All (λ v. (at : ℕ) → R v (header v at)) vs → InStep R vs (headers_at bytes header vs at)
+  headers_in_step R [] at h = tt
+  headers_in_step R (v ∷ vs) at h = (h.0 at, headers_in_step R vs (at + length (bytes v)) h.1)
 
 -- every shared peak that a header names is there
 pub no_peak_amiss :
     (g count i : ℕ) (hs : List Header) (cs : List Condition) → All (λ h. (not (is_embedded h.index) && leb count (peak_index h.index)) ≡ false) hs →
-    first_of (peak-conditions g count i hs ++ cs) ≡ first_of cs
+    first_of (peak_conditions g count i hs ++ cs) ≡ first_of cs
 no_peak_amiss g count i [] cs h = refl
 no_peak_amiss g count i (h ∷ hs) cs k = rw k.0 (no_peak_amiss g count (suc i) hs cs k.1)
 
@@ -49,15 +49,15 @@ pub record Reads (c : Checked) (p : ℕ) (shared : Points) (bs : List ℕ) (v : 
   pub given_back : GivesBack v entry
 
 module _ (c : Checked) (g p : ℕ) (shared : Points) (bytes : Variation → List ℕ) where
-  pub entries-back :
+  pub entries_back :
       (i : ℕ) (vs : List Variation) (hs : List Header) (r : List ℕ) (at : ℕ) → InStep (λ v h. Reads c p shared (bytes v) v h) vs hs →
       (es : List Entry) × (read_entries c g p shared i hs (joined (map bytes vs) ++ r) at ≡ found (rest es r (at + length (joined (map bytes vs))))) × InStep GivesBack vs es
-  entries-back i [] [] r at h = ([], rw add-zero, tt)
-  entries-back i [] (x ∷ hs) r at h = absurd h
-  entries-back i (v ∷ vs) [] r at h = absurd h
-  entries-back i (v ∷ vs) (x ∷ hs) r at h =
+  entries_back i [] [] r at h = ([], rw add-zero, tt)
+  entries_back i [] (x ∷ hs) r at h = absurd h
+  entries_back i (v ∷ vs) [] r at h = absurd h
+  entries_back i (v ∷ vs) (x ∷ hs) r at h =
       let more = joined (map bytes vs) ++ r in
-      let ih = entries-back (suc i) vs hs r (at + length (bytes v)) h.1 in
+      let ih = entries_back (suc i) vs hs r (at + length (bytes v)) h.1 in
       let e = h.0.entry in (
         e ∷ ih.0,
         rw (

@@ -8,15 +8,15 @@ use Rattle.format.specs.Bytes.{pair, signed16}
 use Rattle.format.specs.Account.{Declined, implied_start, implied_end}
 use Rattle.format.specs.Packed.{Points, every, only}
 use Rattle.format.specs.Glyphs.{listed}
-use Rattle.format.specs.Streams.{Read, Rest, rest, rises, cons_to, read_words, read-points, read-deltas, and_then, found}
+use Rattle.format.specs.Streams.{Read, Rest, rest, rises, cons_to, read_words, read_points, read_deltas, and_then, found}
 use Rattle.format.specs.Reader.{Checked, Header, Entry, is_embedded, is_regional, is_private, peak_index, value_or, shared_peak, entry_peak, entry_of, points_of, moves_of, nothing_left, at_entry, read_entry, read_entries}
 use Rattle.format.specs.Laws.{InRange}
 use Rattle.format.specs.Found.{FailsInside, WellFormed, WellTold}
-use Rattle.format.proofs.Outcomes.{Outcome, outcome_then, outcome-if, outcome-cond}
+use Rattle.format.proofs.Outcomes.{Outcome, outcome_then, outcome_if, outcome_cond}
 use Rattle.format.proofs.Inside.{stays_at, stays_ends}
 use Rattle.format.proofs.DeltasInside.{AsMany, deltas_told}
-use Rattle.format.proofs.PointsInside.{In-place, points-told}
-use Rattle.format.proofs.FaultsTold.{slot-told, stream-told}
+use Rattle.format.proofs.PointsInside.{InPlace, points_told}
+use Rattle.format.proofs.FaultsTold.{slot_told, stream_told}
 use Rattle.format.proofs.HeadersFound.{Fits, Peaked}
 
 -- Peaks
@@ -40,8 +40,8 @@ complete_count n none h = absurd h
 complete_count n (some r) h = h
 
 module _ (c : Checked) (room : c.peaks_at + 2 * (c.axes * c.peak_count) ≤ length c.table) where
-  shared-of-axes : (i : ℕ) → i < c.peak_count → length (shared_peak c i) ≡ c.axes
-  shared-of-axes i h =
+  shared_of_axes : (i : ℕ) → i < c.peak_count → length (shared_peak c i) ≡ c.axes
+  shared_of_axes i h =
       let a = c.axes in
       let at = c.peaks_at + 2 * (a * i) in
       let few : a * suc i ≤ a * c.peak_count = mul-le-mul (omega arith) (omega arith) in
@@ -53,7 +53,7 @@ module _ (c : Checked) (room : c.peaks_at + 2 * (c.axes * c.peak_count) ≤ leng
       by : (b : Bool) → (b ≡ true → length h.embedded ≡ c.axes) → (not b && leb c.peak_count (peak_index h.index)) ≡ false →
           length (cond b h.embedded (shared_peak c (peak_index h.index))) ≡ c.axes
       by true e n = e refl
-      by false e n = shared-of-axes (peak_index h.index) (leb-false c.peak_count (peak_index h.index) n)
+      by false e n = shared_of_axes (peak_index h.index) (leb-false c.peak_count (peak_index h.index) n)
 
 -- a bound of the tents: stored, or implied by the peak
 bound_of_axes : (b : Bool) (a : ℕ) (stored peak : List ℤ) (implied : ℤ → ℤ) → (b ≡ true → length stored ≡ a) → length peak ≡ a → length (cond b stored (map implied peak)) ≡ a
@@ -83,10 +83,10 @@ module _ (c : Checked) (g p : ℕ) (shared : Points) (end : ℕ)
   abbrev Told : Declined → Type 0
   Told = WellTold c.table g
 
-  entry-well-formed :
+  entry_well_formed :
       (h : Header) (ps : Points) (xs ys : List ℤ) → Fits c.axes end h → Peaked c.peak_count h → InRange p ps →
       length xs ≡ length (points_of p ps) → length ys ≡ length (points_of p ps) → WellFormed c.axes p (entry_of c h p ps xs ys)
-  entry-well-formed h ps xs ys f k r e e' =
+  entry_well_formed h ps xs ys f k r e e' =
       let peak = peak_of_axes c room h end f k in
       let moves = moves_points (points_of p ps) xs ys e e' in
       record {
@@ -99,69 +99,69 @@ module _ (c : Checked) (g p : ℕ) (shared : Points) (end : ℕ)
         points_rise = subst (λ (qs : List ℕ). rises 0 p qs ≡ true) (sym moves) (range_rises p ps r);
       }
 
-  nothing-left-told : (i at : ℕ) (e : Entry) (bs : List ℕ) → WellFormed c.axes p e → at ≤ length c.table → Outcome (WellFormed c.axes p) Told (nothing_left (at_entry g i) at e bs)
-  nothing-left-told i at e [] w le = w
-  nothing-left-told i at e (b ∷ bs) w le = slot-told c.table g (some i) 24 at (omega arith) (omega arith) le
+  nothing_left_told : (i at : ℕ) (e : Entry) (bs : List ℕ) → WellFormed c.axes p e → at ≤ length c.table → Outcome (WellFormed c.axes p) Told (nothing_left (at_entry g i) at e bs)
+  nothing_left_told i at e [] w le = w
+  nothing_left_told i at e (b ∷ bs) w le = slot_told c.table g (some i) 24 at (omega arith) (omega arith) le
 
   -- a fault of a stream in the data of entry i
-  data-told :
+  data_told :
       (i n : ℕ) (bs : List ℕ) (at : ℕ) → 21 ≤ n → n ≤ 25 → at + length bs ≤ length c.table → (x : Declined) → FailsInside (at_entry g i) n bs at x → Told x
-  data-told i n bs at low high inside x h = stream-told c.table g (some i) n bs at x low high inside h
+  data_told i n bs at low high inside x h = stream_told c.table g (some i) n bs at x low high inside h
 
   -- the deltas of so many points, x and then y
-  coordinates-found :
+  coordinates_found :
       (i : ℕ) (h : Header) (ps : Points) (bs : List ℕ) (at : ℕ) → Fits c.axes end h → Peaked c.peak_count h → InRange p ps → at + length bs ≤ length c.table →
       let d = at_entry g i in
       let k = length (points_of p ps) in
       Outcome (WellFormed c.axes p) Told
-      (and_then (read-deltas d k bs at) (λ x. and_then (read-deltas d k x.left x.place) (λ y. nothing_left d y.place (entry_of c h p ps x.value y.value) y.left)))
-  coordinates-found i h ps bs at f pk r le =
+      (and_then (read_deltas d k bs at) (λ x. and_then (read_deltas d k x.left x.place) (λ y. nothing_left d y.place (entry_of c h p ps x.value y.value) y.left)))
+  coordinates_found i h ps bs at f pk r le =
       let d = at_entry g i in
       let k = length (points_of p ps) in
-      outcome_then (AsMany d k bs at) (WellFormed c.axes p) (FailsInside d 23 bs at) Told (read-deltas d k bs at) _ (deltas_told d k bs at)
-      (data-told i 23 bs at (omega arith) (omega arith) le)
+      outcome_then (AsMany d k bs at) (WellFormed c.axes p) (FailsInside d 23 bs at) Told (read_deltas d k bs at) _ (deltas_told d k bs at)
+      (data_told i 23 bs at (omega arith) (omega arith) le)
       (λ x u. let x-ends = stays_ends bs at x u.0 in
       outcome_then (AsMany d k x.left x.place) (WellFormed c.axes p) (FailsInside d 23 x.left x.place) Told
-      (read-deltas d k x.left x.place) _ (deltas_told d k x.left x.place)
-      (data-told i 23 x.left x.place (omega arith) (omega arith) (omega arith))
-      (λ y v. nothing-left-told i y.place (entry_of c h p ps x.value y.value) y.left
-      (entry-well-formed h ps x.value y.value f pk r u.1 v.1) (omega (arith, stays_ends x.left x.place y v.0))))
+      (read_deltas d k x.left x.place) _ (deltas_told d k x.left x.place)
+      (data_told i 23 x.left x.place (omega arith) (omega arith) (omega arith))
+      (λ y v. nothing_left_told i y.place (entry_of c h p ps x.value y.value) y.left
+      (entry_well_formed h ps x.value y.value f pk r u.1 v.1) (omega (arith, stays_ends x.left x.place y v.0))))
 
   entry_found :
       (i : ℕ) (h : Header) (bs : List ℕ) (at : ℕ) → Fits c.axes end h → Peaked c.peak_count h → at + length bs ≤ length c.table →
       Outcome (WellFormed c.axes p) Told (read_entry c (at_entry g i) p shared h bs at)
   entry_found i h bs at f pk le =
       let d = at_entry g i in
-      let points = read-points d p bs at in
+      let points = read_points d p bs at in
       let given = found (rest shared bs at) in
-      outcome_then (In-place d p bs at) (WellFormed c.axes p) (FailsInside d 22 bs at) Told (cond (is_private h.index) points given) _
-      (outcome-cond (In-place d p bs at) (FailsInside d 22 bs at) (is_private h.index) points given (λ e. points-told d p bs at) (λ e. (stays_at shared bs at, range)))
-      (data-told i 22 bs at (omega arith) (omega arith) le)
-      (λ q w. coordinates-found i h q.value q.left q.place f pk w.1 (omega (arith, stays_ends bs at q w.0)))
+      outcome_then (InPlace d p bs at) (WellFormed c.axes p) (FailsInside d 22 bs at) Told (cond (is_private h.index) points given) _
+      (outcome_cond (InPlace d p bs at) (FailsInside d 22 bs at) (is_private h.index) points given (λ e. points_told d p bs at) (λ e. (stays_at shared bs at, range)))
+      (data_told i 22 bs at (omega arith) (omega arith) le)
+      (λ q w. coordinates_found i h q.value q.left q.place f pk w.1 (omega (arith, stays_ends bs at q w.0)))
 
-  pub record Entries-found (n : ℕ) (r : Rest (List Entry)) : Type 0 where
-    pub well-formed : All (WellFormed c.axes p) r.value
+  pub record EntriesFound (n : ℕ) (r : Rest (List Entry)) : Type 0 where
+    pub well_formed : All (WellFormed c.axes p) r.value
     pub as_many : length r.value ≡ n
     pub inside : r.place + length r.left ≤ length c.table
 
-  pub entries-found :
+  pub entries_found :
       (i : ℕ) (hs : List Header) (bs : List ℕ) (at : ℕ) → end ≤ length c.table → All (Fits c.axes end) hs → All (Peaked c.peak_count) hs →
-      at + length bs ≤ length c.table → Outcome (Entries-found (length hs)) Told (read_entries c g p shared i hs bs at)
-  entries-found i [] bs at in_end f k le = record { well-formed = tt; as_many = refl; inside = le }
-  entries-found i (h ∷ hs) bs at in_end f k le =
+      at + length bs ≤ length c.table → Outcome (EntriesFound (length hs)) Told (read_entries c g p shared i hs bs at)
+  entries_found i [] bs at in_end f k le = record { well_formed = tt; as_many = refl; inside = le }
+  entries_found i (h ∷ hs) bs at in_end f k le =
       let more : Entry → Read (Rest (List Entry)) = λ e. and_then (read_entries c g p shared (suc i) hs (drop h.size bs) (at + h.size)) (λ r. found (rest (e ∷ r.value) r.left r.place)) in
-      outcome-if (Entries-found (length (h ∷ hs))) Told (ltb (length bs) h.size) (at_entry g i 21 h.at)
+      outcome_if (EntriesFound (length (h ∷ hs))) Told (ltb (length bs) h.size) (at_entry g i 21 h.at)
       (and_then (read_entry c (at_entry g i) p shared h (take h.size bs) at) more)
-      (λ e. slot-told c.table g (some i) 21 h.at (omega arith) (omega arith) (omega (arith, f.0.not_past)))
+      (λ e. slot_told c.table g (some i) 21 h.at (omega arith) (omega arith) (omega (arith, f.0.not_past)))
       (λ e.
       let fits = ltb-false (length bs) h.size e in
-      outcome_then (WellFormed c.axes p) (Entries-found (length (h ∷ hs))) Told Told
+      outcome_then (WellFormed c.axes p) (EntriesFound (length (h ∷ hs))) Told Told
       (read_entry c (at_entry g i) p shared h (take h.size bs) at) more
       (entry_found i h (take h.size bs) at f.0 k.0 (omega (arith, length-take h.size bs)))
       (λ d w. w)
       (λ x w.
-      outcome_then (Entries-found (length hs)) (Entries-found (length (h ∷ hs))) Told Told
+      outcome_then (EntriesFound (length hs)) (EntriesFound (length (h ∷ hs))) Told Told
       (read_entries c g p shared (suc i) hs (drop h.size bs) (at + h.size)) (λ r. found (rest (x ∷ r.value) r.left r.place))
-      (entries-found (suc i) hs (drop h.size bs) (at + h.size) in_end f.1 k.1 (omega (arith, length-drop h.size bs)))
+      (entries_found (suc i) hs (drop h.size bs) (at + h.size) in_end f.1 k.1 (omega (arith, length-drop h.size bs)))
       (λ d v. v)
-      (λ r v. record { well-formed = (w, v.well-formed); as_many = ap suc v.as_many; inside = v.inside })))
+      (λ r v. record { well_formed = (w, v.well_formed); as_many = ap suc v.as_many; inside = v.inside })))

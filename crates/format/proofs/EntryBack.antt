@@ -33,18 +33,18 @@ abbrev pub header : ℕ → List (List ℤ) → Option Points → Variation → 
 header a ps s v at = header_of a at (length (data_bytes s v)) (index_of ps s v) (header_values (shared_index ps (peak v)) v)
 
 values_short : (i : Option ℕ) (r : Bool) (ts : List Tent) → All ShortTent ts → All Short (peak_part i (map (λ t. t.peak) ts) ++ region_part r ts)
-values_short i r ts h = All-append Short (peak_part i (map (λ t. t.peak) ts)) (region_part r ts) (of-peak i) (of-region r)
+values_short i r ts h = All-append Short (peak_part i (map (λ t. t.peak) ts)) (region_part r ts) (of_peak i) (of_region r)
   where
-    of-peak : (i : Option ℕ) → All Short (peak_part i (map (λ t. t.peak) ts))
-    of-peak none = All-map Short (λ t. t.peak) ts (All-weaker ShortTent (λ t. Short t.peak) (λ t k. k.0) ts h)
-    of-peak (some j) = tt
+    of_peak : (i : Option ℕ) → All Short (peak_part i (map (λ t. t.peak) ts))
+    of_peak none = All-map Short (λ t. t.peak) ts (All-weaker ShortTent (λ t. Short t.peak) (λ t k. k.0) ts h)
+    of_peak (some j) = tt
 
-    of-region : (r : Bool) → All Short (region_part r ts)
-    of-region true =
+    of_region : (r : Bool) → All Short (region_part r ts)
+    of_region true =
         All-append Short (map (λ t. t.start) ts) (map (λ t. t.end) ts)
         (All-map Short (λ t. t.start) ts (All-weaker ShortTent (λ t. Short t.start) (λ t k. k.1) ts h))
         (All-map Short (λ t. t.end) ts (All-weaker ShortTent (λ t. Short t.end) (λ t k. k.2) ts h))
-    of-region false = tt
+    of_region false = tt
 
 -- the shared points that the entries are read with
 abbrev pub shared_or_every : Option Points → Points
@@ -61,17 +61,17 @@ peak_not_amiss c none q r s h = rw (embedded_back none r s tt)
 peak_not_amiss c (some i) q r s h = rw (embedded_back (some i) r s h.0, index_back i r s h.0) (lt-leb c.peak_count i h.1)
 
 module _ (c : Checked) (p : ℕ) (ps : List (List ℤ)) (s : Option Points) (v : Variation) (few : p ≤ 32767) (f : ReadableOne c p ps s v) where
-  pub one-header-back : (r : List ℕ) (at : ℕ) → read_header c.axes (header_bytes ps s v ++ r) at ≡ some (rest (header c.axes ps s v at) r (at + length (header_bytes ps s v)))
-  one-header-back r at =
+  pub one_header_back : (r : List ℕ) (at : ℕ) → read_header c.axes (header_bytes ps s v ++ r) at ≡ some (rest (header c.axes ps s v at) r (at + length (header_bytes ps s v)))
+  one_header_back r at =
       let i = shared_index ps (peak v) in
       header_back ps s v c.axes r at f.tents_number (omega (arith, f.data_fits)) (there_index c i (peak v) f.peak_there) (values_short i (has_region v) v.tents f.short_tents)
       ∙ ap (λ (n : ℕ). some (rest (header c.axes ps s v at) r (at + n))) (omega (arith, words_size (header_values i v)))
 
-  pub one-peak-there : (at : ℕ) → (not (is_embedded (header c.axes ps s v at).index) && leb c.peak_count (peak_index (header c.axes ps s v at).index)) ≡ false
-  one-peak-there at = peak_not_amiss c (shared_index ps (peak v)) (peak v) (has_region v) (is_shared s (stored_points v.deltas)) f.peak_there
+  pub one_peak_there : (at : ℕ) → (not (is_embedded (header c.axes ps s v at).index) && leb c.peak_count (peak_index (header c.axes ps s v at).index)) ≡ false
+  one_peak_there at = peak_not_amiss c (shared_index ps (peak v)) (peak v) (has_region v) (is_shared s (stored_points v.deltas)) f.peak_there
 
-  pub one-entry-back : (at : ℕ) → Reads c p (shared_or_every s) (data_bytes s v) v (header c.axes ps s v at)
-  one-entry-back at =
+  pub one_entry_back : (at : ℕ) → Reads c p (shared_or_every s) (data_bytes s v) v (header c.axes ps s v at)
+  one_entry_back at =
       let i = shared_index ps (peak v) in
       let sh = is_shared s (stored_points v.deltas) in
       let h = header c.axes ps s v at in

@@ -9,8 +9,8 @@ use Rattle.format.specs.Found.{FailsInside, WellTold}
 module _ (t : List ℕ) (g : ℕ) where
   -- without a place: the table is too short, or it cannot meet the request
 
-  pub short-told : WellTold t g (declined 16 none none none)
-  short-told =
+  pub short_told : WellTold t g (declined 16 none none none)
+  short_told =
       record {
         number_from = omega arith;
         number_to = omega arith;
@@ -20,8 +20,8 @@ module _ (t : List ℕ) (g : ℕ) where
         place_in_the_table = λ q e. absurd (let z : ◌≡◌ {A = ℕ} 0 1 = cc in omega arith);
       }
 
-  pub request-told : WellTold t g (declined 20 (some g) none none)
-  request-told =
+  pub request_told : WellTold t g (declined 20 (some g) none none)
+  request_told =
       record {
         number_from = omega arith;
         number_to = omega arith;
@@ -32,8 +32,8 @@ module _ (t : List ℕ) (g : ℕ) where
       }
 
   -- of the table
-  pub table-told : (n at : ℕ) → 17 ≤ n → n ≤ 19 → at ≤ length t → WellTold t g (declined n none none (some at))
-  table-told n at low high inside =
+  pub table_told : (n at : ℕ) → 17 ≤ n → n ≤ 19 → at ≤ length t → WellTold t g (declined n none none (some at))
+  table_told n at low high inside =
       record {
         number_from = omega arith;
         number_to = omega arith;
@@ -44,8 +44,8 @@ module _ (t : List ℕ) (g : ℕ) where
       }
 
   -- of a slot, or of an entry in it
-  pub slot-told : (v : Option ℕ) (n at : ℕ) → 21 ≤ n → n ≤ 25 → at ≤ length t → WellTold t g (declined n (some g) v (some at))
-  slot-told v n at low high inside =
+  pub slot_told : (v : Option ℕ) (n at : ℕ) → 21 ≤ n → n ≤ 25 → at ≤ length t → WellTold t g (declined n (some g) v (some at))
+  slot_told v n at low high inside =
       record {
         number_from = omega arith;
         number_to = high;
@@ -56,11 +56,11 @@ module _ (t : List ℕ) (g : ℕ) where
       }
 
   -- of a stream whose bytes lie in the table
-  pub stream-told :
+  pub stream_told :
       (v : Option ℕ) (n : ℕ) (bs : List ℕ) (at : ℕ) (x : Declined) → 21 ≤ n → n ≤ 25 → at + length bs ≤ length t →
       FailsInside (λ m q. declined m (some g) v (some q)) n bs at x → WellTold t g x
-  stream-told v n bs at x low high inside h =
-      subst (WellTold t g) (sym h.declines) (slot-told v n h.place low high (omega (arith, h.not_past)))
+  stream_told v n bs at x low high inside h =
+      subst (WellTold t g) (sym h.declines) (slot_told v n h.place low high (omega (arith, h.not_past)))
 
 -- The first condition that applies
 

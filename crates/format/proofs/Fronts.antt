@@ -42,22 +42,22 @@ one_word_more x n a b bs (some r) h =
     }
 
 module _ {X : Type 0} (f : ℕ → X) where
-  pub bytes-front : (n : ℕ) (bs : List ℕ) → Front n n bs (read_bytes f n bs)
-  bytes-front zero bs = no_items bs
-  bytes-front (suc n) [] = tt
-  bytes-front (suc n) (b ∷ bs) = one_byte_more (f b) n n b bs (read_bytes f n bs) (bytes-front n bs)
+  pub bytes_front : (n : ℕ) (bs : List ℕ) → Front n n bs (read_bytes f n bs)
+  bytes_front zero bs = no_items bs
+  bytes_front (suc n) [] = tt
+  bytes_front (suc n) (b ∷ bs) = one_byte_more (f b) n n b bs (read_bytes f n bs) (bytes_front n bs)
 
-  pub words-front : (n : ℕ) (bs : List ℕ) → Front n (2 * n) bs (read_words f n bs)
-  words-front zero bs = no_items bs
-  words-front (suc n) [] = tt
-  words-front (suc n) (a ∷ []) = tt
-  words-front (suc n) (a ∷ (b ∷ bs)) = one_word_more (f (pair a b)) n a b bs (read_words f n bs) (words-front n bs)
+  pub words_front : (n : ℕ) (bs : List ℕ) → Front n (2 * n) bs (read_words f n bs)
+  words_front zero bs = no_items bs
+  words_front (suc n) [] = tt
+  words_front (suc n) (a ∷ []) = tt
+  words_front (suc n) (a ∷ (b ∷ bs)) = one_word_more (f (pair a b)) n a b bs (read_words f n bs) (words_front n bs)
 
 pub gaps_front : (w : Bool) (n : ℕ) (bs : List ℕ) → Front n (cond w (2 * n) n) bs (read_gaps w n bs)
-gaps_front true n bs = words-front (λ (g : ℕ). g) n bs
-gaps_front false n bs = bytes-front (λ (g : ℕ). g) n bs
+gaps_front true n bs = words_front (λ (g : ℕ). g) n bs
+gaps_front false n bs = bytes_front (λ (g : ℕ). g) n bs
 
 pub values_front : (k : Kind) (n : ℕ) (bs : List ℕ) → Front n (held k n) bs (read_values k n bs)
 values_front zeros n bs = record { used = []; used_then_left = refl; as_many_bytes = refl; as_many_items = length-replicate n (pos 0) }
-values_front bytes n bs = bytes-front signed8 n bs
-values_front words n bs = words-front signed16 n bs
+values_front bytes n bs = bytes_front signed8 n bs
+values_front words n bs = words_front signed16 n bs

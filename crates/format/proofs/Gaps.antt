@@ -8,7 +8,7 @@ use Rattle.std.proofs.lemmas.Bool.Decides.{nat_tests}
 use Rattle.format.specs.Bytes.{joined}
 use Rattle.format.specs.Account.{Declined}
 use Rattle.format.specs.Packed.{GapRun, gap_run_bytes, gap_bytes, gaps_after, is_wide, same_class, class_extent, cut_gaps_at_most}
-use Rattle.format.specs.Streams.{rest, read_gaps, points_after, last_of, rises, point-runs, found, and_then}
+use Rattle.format.specs.Streams.{rest, read_gaps, points_after, last_of, rises, point_runs, found, and_then}
 use Rattle.format.proofs.Words.{words_back, bytes_back}
 
 abbrev Holds : Bool → ℕ → Type 0
@@ -78,15 +78,15 @@ run_back :
     (d : ℕ → ℕ → Declined) (m p from low : ℕ) (w : Bool) (g : ℕ) (gs more bs : List ℕ) (at : ℕ) → length gs < 128 → All (Holds w) (g ∷ gs) →
     rises low p (points_after from (g ∷ gs)) ≡ true →
     let last = last_of (from + g) (points_after (from + g) gs) in
-    point-runs d (suc m) p (length (g ∷ gs ++ more)) from low (gap_control w (suc (length gs)) ∷ (joined (map (gap_bytes w) (g ∷ gs)) ++ bs)) at
-    ≡ and_then (point-runs d m p (length more) last (suc last) bs (at + (1 + cond w (2 * suc (length gs)) (suc (length gs)))))
+    point_runs d (suc m) p (length (g ∷ gs ++ more)) from low (gap_control w (suc (length gs)) ∷ (joined (map (gap_bytes w) (g ∷ gs)) ++ bs)) at
+    ≡ and_then (point_runs d m p (length more) last (suc last) bs (at + (1 + cond w (2 * suc (length gs)) (suc (length gs)))))
     (λ s. found (rest (points_after from (g ∷ gs) ++ s.value) s.left s.place))
 run_back d m p from low w g gs more bs at few h up =
     let e = length-append gs more in
     let left : suc (length (gs ++ more)) - suc (length gs) ≡ length more = omega arith in
     rw (control_count w (length gs) few, le-ltb (suc (length (gs ++ more))) (suc (length gs)) (omega arith), control_wide w (length gs) few, gaps_back w (g ∷ gs) bs h, left, up)
 
-none_back : (d : ℕ → ℕ → Declined) (m p from low : ℕ) (r : List ℕ) (at : ℕ) → point-runs d m p 0 from low r at ≡ found (rest [] r (at + 0))
+none_back : (d : ℕ → ℕ → Declined) (m p from low : ℕ) (r : List ℕ) (at : ℕ) → point_runs d m p 0 from low r at ≡ found (rest [] r (at + 0))
 none_back d zero p from low r at = rw add-zero
 none_back d (suc m) p from low r at = rw add-zero
 
@@ -94,8 +94,8 @@ more_back :
     (d : ℕ → ℕ → Declined) (m p from low : ℕ) (w : Bool) (gs more bs r : List ℕ) (at : ℕ) →
     0 < length gs → length gs ≤ 128 → All (Holds w) gs → length (gs ++ more) ≤ m → rises low p (points_after from (gs ++ more)) ≡ true →
     ((m' from' low' at' : ℕ) → length more ≤ m' → rises low' p (points_after from' more) ≡ true →
-    point-runs d m' p (length more) from' low' (bs ++ r) at' ≡ found (rest (points_after from' more) r (at' + length bs))) →
-    point-runs d m p (length (gs ++ more)) from low (((gap_control w (length gs) ∷ joined (map (gap_bytes w) gs)) ++ bs) ++ r) at
+    point_runs d m' p (length more) from' low' (bs ++ r) at' ≡ found (rest (points_after from' more) r (at' + length bs))) →
+    point_runs d m p (length (gs ++ more)) from low (((gap_control w (length gs) ∷ joined (map (gap_bytes w) gs)) ++ bs) ++ r) at
     ≡ found (rest (points_after from (gs ++ more)) r (at + length ((gap_control w (length gs) ∷ joined (map (gap_bytes w) gs)) ++ bs)))
 more_back d m p from low w [] more bs r at some_gaps few fit le up ih = absurd (omega arith)
 more_back d zero p from low w (g ∷ gs) more bs r at some_gaps few fit le up ih = absurd (omega arith)
@@ -115,7 +115,7 @@ more_back d (suc m) p from low w (g ∷ gs) more bs r at some_gaps few fit le up
 pub runs_back :
     (d : ℕ → ℕ → Declined) (m p from low : ℕ) (rs : List GapRun) (r : List ℕ) (at : ℕ) → All Lawful rs → length (all_gaps rs) ≤ m →
     rises low p (points_after from (all_gaps rs)) ≡ true →
-    point-runs d m p (length (all_gaps rs)) from low (joined (map gap_run_bytes rs) ++ r) at
+    point_runs d m p (length (all_gaps rs)) from low (joined (map gap_run_bytes rs) ++ r) at
     ≡ found (rest (points_after from (all_gaps rs)) r (at + length (joined (map gap_run_bytes rs))))
 runs_back d m p from low [] r at h le up = none_back d m p from low r at
 runs_back d m p from low (run ∷ rs) r at h le up =
@@ -131,11 +131,11 @@ class_holds false g h e = grind (arith, nat_tests)
 taken_holds : (w : Bool) (n : ℕ) (gs : List ℕ) → All (λ g. g < 65536) gs → All (Holds w) (take (class_extent w n gs) gs)
 taken_holds w zero gs h = tt
 taken_holds w (suc n) [] h = tt
-taken_holds w (suc n) (g ∷ gs) h = by-test (same_class w g) refl (taken_holds w n gs h.1)
+taken_holds w (suc n) (g ∷ gs) h = by_test (same_class w g) refl (taken_holds w n gs h.1)
   where
-    by-test : (b : Bool) → same_class w g ≡ b → All (Holds w) (take (class_extent w n gs) gs) → All (Holds w) (take (cond b (suc (class_extent w n gs)) 0) (g ∷ gs))
-    by-test true e t = (class_holds w g h.0 e, t)
-    by-test false e t = tt
+    by_test : (b : Bool) → same_class w g ≡ b → All (Holds w) (take (class_extent w n gs) gs) → All (Holds w) (take (cond b (suc (class_extent w n gs)) 0) (g ∷ gs))
+    by_test true e t = (class_holds w g h.0 e, t)
+    by_test false e t = tt
 
 extent_most : (w : Bool) (n : ℕ) (gs : List ℕ) → class_extent w n gs ≤ n
 extent_most w zero gs = omega arith
@@ -143,11 +143,11 @@ extent_most w (suc n) [] = omega arith
 extent_most w (suc n) (g ∷ gs) = let i = extent_most w n gs in grind (arith, nat_tests)
 
 own_class : (g : ℕ) → same_class (is_wide g) g ≡ true
-own_class g = by-test (is_wide g) refl
+own_class g = by_test (is_wide g) refl
   where
-    by-test : (b : Bool) → is_wide g ≡ b → same_class b g ≡ true
-    by-test true e = e
-    by-test false e = rw e
+    by_test : (b : Bool) → is_wide g ≡ b → same_class b g ≡ true
+    by_test true e = e
+    by_test false e = rw e
 
 cut_gaps : (m : ℕ) (gs : List ℕ) → length gs ≤ m → all_gaps (cut_gaps_at_most m gs) ≡ gs
 cut_gaps zero [] h = refl
@@ -197,7 +197,7 @@ gaps_fit b low p (q ∷ qs) le h =
 pub point_runs_back :
     (d : ℕ → ℕ → Declined) (p : ℕ) (ps r : List ℕ) (at : ℕ) → p ≤ 65536 → rises 0 p ps ≡ true →
     let runs = joined (map gap_run_bytes (cut_gaps_at_most (length ps) (gaps_after 0 ps))) in
-    point-runs d (length ps) p (length ps) 0 0 (runs ++ r) at ≡ found (rest ps r (at + length runs))
+    point_runs d (length ps) p (length ps) 0 0 (runs ++ r) at ≡ found (rest ps r (at + length runs))
 point_runs_back d p ps r at le up =
     let gs = gaps_after 0 ps in
     let rs = cut_gaps_at_most (length ps) gs in
@@ -206,5 +206,5 @@ point_runs_back d p ps r at le up =
     let q : points_after 0 (all_gaps rs) ≡ ps = ap (points_after 0) v ∙ gaps_rise 0 0 p ps (omega arith) up in
     let n : length (all_gaps rs) ≡ length ps = ap length v ∙ l in
     let b = runs_back d (length ps) p 0 0 rs r at (cut_lawful (length ps) gs (gaps_fit 0 0 p ps le up)) (omega arith) (rw q up) in
-    subst (λ (k : ℕ). point-runs d (length ps) p k 0 0 (joined (map gap_run_bytes rs) ++ r) at ≡ found (rest ps r (at + length (joined (map gap_run_bytes rs))))) n
-    (subst (λ (qs : List ℕ). point-runs d (length ps) p (length (all_gaps rs)) 0 0 (joined (map gap_run_bytes rs) ++ r) at ≡ found (rest qs r (at + length (joined (map gap_run_bytes rs))))) q b)
+    subst (λ (k : ℕ). point_runs d (length ps) p k 0 0 (joined (map gap_run_bytes rs) ++ r) at ≡ found (rest ps r (at + length (joined (map gap_run_bytes rs))))) n
+    (subst (λ (qs : List ℕ). point_runs d (length ps) p (length (all_gaps rs)) 0 0 (joined (map gap_run_bytes rs) ++ r) at ≡ found (rest qs r (at + length (joined (map gap_run_bytes rs))))) q b)

@@ -61,31 +61,31 @@ module _ (c : Checked) (v : Variation) (at size w : ℕ) (e : length v.tents ≡
   pk : length (peak v) ≡ c.axes
   pk = length-map v.tents (λ t. t.peak) ∙ e
 
-  peak-back : (i : Option ℕ) (zs : List ℤ) → Says w i → There c i (peak v) → entry_peak c (header_of c.axes at size w (peak_part i (peak v) ++ zs)) ≡ peak v
-  peak-back none zs s h = rw s (front_taken c.axes (peak v) zs pk)
-  peak-back (some i) zs s h = rw (s.0, s.1) h.2
+  peak_back : (i : Option ℕ) (zs : List ℤ) → Says w i → There c i (peak v) → entry_peak c (header_of c.axes at size w (peak_part i (peak v) ++ zs)) ≡ peak v
+  peak_back none zs s h = rw s (front_taken c.axes (peak v) zs pk)
+  peak_back (some i) zs s h = rw (s.0, s.1) h.2
 
   -- the values after the peak
-  after-peak : (i : Option ℕ) (zs : List ℤ) → Says w i → drop (cond (is_embedded w) c.axes 0) (peak_part i (peak v) ++ zs) ≡ zs
-  after-peak none zs s = rw s (front_dropped c.axes (peak v) zs pk)
-  after-peak (some i) zs s = rw s.0
+  after_peak : (i : Option ℕ) (zs : List ℤ) → Says w i → drop (cond (is_embedded w) c.axes 0) (peak_part i (peak v) ++ zs) ≡ zs
+  after_peak none zs s = rw s (front_dropped c.axes (peak v) zs pk)
+  after_peak (some i) zs s = rw s.0
 
-  bounds-back :
+  bounds_back :
       (i : Option ℕ) (r : Bool) → has_region v ≡ r → is_regional w ≡ r → Says w i → There c i (peak v) →
       let h = header_of c.axes at size w (peak_part i (peak v) ++ region_part r v.tents) in
       (cond (is_regional w) h.starts (map implied_start (entry_peak c h)) ≡ map (λ t. t.start) v.tents)
       × (cond (is_regional w) h.ends (map implied_end (entry_peak c h)) ≡ map (λ t. t.end) v.tents)
-  bounds-back i true y f s h =
+  bounds_back i true y f s h =
       let ss = map (λ t. t.start) v.tents in
       let es = map (λ t. t.end) v.tents in
       let n : length ss ≡ c.axes = length-map v.tents (λ t. t.start) ∙ e in (
-        rw (f, after-peak i (ss ++ es) s) (front_taken c.axes ss es n),
-        rw (f, after-peak i (ss ++ es) s) (front_dropped c.axes ss es n),
+        rw (f, after_peak i (ss ++ es) s) (front_taken c.axes ss es n),
+        rw (f, after_peak i (ss ++ es) s) (front_dropped c.axes ss es n),
       )
-  bounds-back i false y f s h =
+  bounds_back i false y f s h =
       let all-implied = not-false (all bounds_implied v.tents) y in (
-        rw (f, peak-back i [] s h) (implied_starts v.tents all-implied),
-        rw (f, peak-back i [] s h) (implied_ends v.tents all-implied),
+        rw (f, peak_back i [] s h) (implied_starts v.tents all-implied),
+        rw (f, peak_back i [] s h) (implied_ends v.tents all-implied),
       )
 
 -- the entry of a variation's header, points and deltas
@@ -98,9 +98,9 @@ entry_gives_back c v at size i sh e h =
     let w = index_word i (has_region v) sh in
     let x = there_index c i (peak v) h in
     let s = says i (has_region v) sh x in
-    let b = bounds-back c v at size w e i (has_region v) refl (regional_back i (has_region v) sh x) s h in
+    let b = bounds_back c v at size w e i (has_region v) refl (regional_back i (has_region v) sh x) s h in
     record {
-      same_peak = peak-back c v at size w e i (region_part (has_region v) v.tents) s h;
+      same_peak = peak_back c v at size w e i (region_part (has_region v) v.tents) s h;
       same_start = b.0;
       same_end = b.1;
       finds_required = stored_required v.deltas;

@@ -9,7 +9,7 @@ use Rattle.format.specs.Packed.{Points}
 use Rattle.format.specs.Glyphs.{peaks_seen, point_sets, shared_points, data_bytes, headers_bytes, listed}
 use Rattle.format.specs.Table.{variations_of, glyphs_bytes, even_total, table_bytes, data_conditions, size_conditions, numbers_full, variation_count, compile_conditions, granted, answered, compile_answer}
 use Rattle.format.proofs.Conditions.{Off, none_applies}
-use Rattle.format.proofs.Lists.{all-parts, all-joined}
+use Rattle.format.proofs.Lists.{all_parts, all_joined}
 
 -- the sizes of a glyph with these variations fit their words
 pub record Fits (ps : List (List ℤ)) (vs : List Variation) : Type 0 where
@@ -32,7 +32,7 @@ fits_of : (ps : List (List ℤ)) (g : ℕ) (vs : List Variation) → All Off (si
 fits_of ps g vs h =
     let s = shared_points (point_sets vs) in
     let last = iff (ltb 65535 (4 + length (headers_bytes ps s vs))) (declined 13 (some g) none none) in
-    let p = all-parts Off (data_conditions s g 0 vs) (last ∷ []) h in
+    let p = all_parts Off (data_conditions s g 0 vs) (last ∷ []) h in
     record {
       data_fits = data_of s g 0 vs p.0;
       headers_fit = ltb-false 65535 (4 + length (headers_bytes ps s vs)) p.1.0;
@@ -53,12 +53,12 @@ granted_says A cells allowance n e =
     ∷ [] in
     let r = answer_none (length (table_bytes A.axes gs)) n (first_of (compile_conditions A cells allowance)) e in
     let o = none_applies (compile_conditions A cells allowance) r.0 in
-    let p = all-parts Off sizes ends o.1.1 in
+    let p = all_parts Off sizes ends o.1.1 in
     record {
       full = not-false (numbers_full gs) o.0;
       cells_suffice = ltb-false cells (variation_count gs) o.1.0;
       each_fits = λ i l. fits_of (peaks_seen gs) i (variations_of i gs)
-          (all-joined Off (length gs) 0 (λ n. size_conditions (peaks_seen gs) n (variations_of n gs)) p.0 i i (omega arith) l);
+          (all_joined Off (length gs) 0 (λ n. size_conditions (peaks_seen gs) n (variations_of n gs)) p.0 i i (omega arith) l);
       total_fits = ltb-false 67108864 (even_total (glyphs_bytes gs)) p.1.0;
       table_fits = ltb-false allowance (length (table_bytes A.axes gs)) p.1.1.0;
       whole = r.1;

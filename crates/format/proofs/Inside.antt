@@ -46,7 +46,7 @@ module _ {Z : Type 0} (c n size : ℕ) (bs : List ℕ) (items : List Z) (left : 
       subst (λ (b : List ℕ). Stays (c ∷ b) at (rest y s.left s.place)) f.used_then_left
       (stays_within (c ∷ f.used) left at (1 + size) s y (omega (arith, f.as_many_bytes)) h)
 
-  pub fails-after : (d : ℕ → ℕ → Declined) (number : ℕ) (x : Declined) → FailsInside d number left (at + (1 + size)) x → FailsInside d number (c ∷ bs) at x
-  fails-after d number x h =
+  pub fails_after : (d : ℕ → ℕ → Declined) (number : ℕ) (x : Declined) → FailsInside d number left (at + (1 + size)) x → FailsInside d number (c ∷ bs) at x
+  fails_after d number x h =
       subst (λ (b : List ℕ). FailsInside d number (c ∷ b) at x) f.used_then_left
       (fails_within d number (c ∷ f.used) left at (1 + size) x (omega (arith, f.as_many_bytes)) h)

@@ -20,21 +20,21 @@ required_found k (v ∷ vs) [] b r = absurd b
 required_found k (v ∷ vs) (e ∷ es) b r = (b.0.finds_required k r.0.0 r.0.1 r.0.2, required_found k vs es b.1 r.1)
 
 module _ (c : Delta → ℤ) (c' : Move → ℤ) (same : (d : Delta) (m : Move) → m.x ≡ d.x → m.y ≡ d.y → c d ≡ c' m) (k : ℕ) (at : List ℤ) where
-  part-alike : (v : Variation) (e : Entry) → GivesBack v e → FoundIn k e →
+  part_alike : (v : Variation) (e : Entry) → GivesBack v e → FoundIn k e →
       part c (delta_at v.deltas k) (variation_scale v at) ≡ part c' (move_at e.moves k) (scale e.peak e.start e.end at)
-  part-alike v e b m =
+  part_alike v e b m =
       let g = b.finds_as_given k m.0 m.1 in
       rw (b.same_peak, b.same_start, b.same_end, m.1, g.1, same g.0 m.0 g.2 g.3)
 
   -- a point that is found in every entry, required or not
-  pub found-moves-alike : (vs : List Variation) (es : List Entry) → InStep GivesBack vs es → All (FoundIn k) es → moved_by_calls c vs k at ≡ moved_by_bytes c' es k at
-  found-moves-alike [] [] b r = refl
-  found-moves-alike [] (e ∷ es) b r = absurd b
-  found-moves-alike (v ∷ vs) [] b r = absurd b
-  found-moves-alike (v ∷ vs) (e ∷ es) b r = rw (part-alike v e b.0 r.0, found-moves-alike vs es b.1 r.1)
+  pub found_moves_alike : (vs : List Variation) (es : List Entry) → InStep GivesBack vs es → All (FoundIn k) es → moved_by_calls c vs k at ≡ moved_by_bytes c' es k at
+  found_moves_alike [] [] b r = refl
+  found_moves_alike [] (e ∷ es) b r = absurd b
+  found_moves_alike (v ∷ vs) [] b r = absurd b
+  found_moves_alike (v ∷ vs) (e ∷ es) b r = rw (part_alike v e b.0 r.0, found_moves_alike vs es b.1 r.1)
 
-  pub moves-alike : (vs : List Variation) (es : List Entry) → InStep GivesBack vs es → All (RequiredIn k) vs → moved_by_calls c vs k at ≡ moved_by_bytes c' es k at
-  moves-alike vs es b r = found-moves-alike vs es b (required_found k vs es b r)
+  pub moves_alike : (vs : List Variation) (es : List Entry) → InStep GivesBack vs es → All (RequiredIn k) vs → moved_by_calls c vs k at ≡ moved_by_bytes c' es k at
+  moves_alike vs es b r = found_moves_alike vs es b (required_found k vs es b r)
 
 pub same_from : (f g : Fraction) → f ≡ g → Same f g
 same_from f g e = rw e
@@ -50,8 +50,8 @@ agree_from_entries axes table g p es e b =
       each_gives_its_variation_back = b;
       required_points_move_alike = λ position n k r. (
         same_from (moved_by_calls (λ d. d.x) vs k position) (moved_by_bytes (λ m. m.x) es k position)
-            (moves-alike (λ d. d.x) (λ m. m.x) (λ d m x y. sym x) k position vs es b r),
+            (moves_alike (λ d. d.x) (λ m. m.x) (λ d m x y. sym x) k position vs es b r),
         same_from (moved_by_calls (λ d. d.y) vs k position) (moved_by_bytes (λ m. m.y) es k position)
-            (moves-alike (λ d. d.y) (λ m. m.y) (λ d m x y. sym y) k position vs es b r),
+            (moves_alike (λ d. d.y) (λ m. m.y) (λ d m x y. sym y) k position vs es b r),
       );
     }

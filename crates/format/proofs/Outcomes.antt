@@ -26,14 +26,14 @@ outcome_weaker F G D (found x) h k = k x h
 outcome_weaker F G D (fault d) h k = h
 
 module _ {X : Type 0} (F : X → Type 0) (D : Declined → Type 0) where
-  pub outcome-if : (b : Bool) (d : Declined) (r : Read X) → (b ≡ true → D d) → (b ≡ false → Outcome F D r) → Outcome F D (fault_if b d r)
-  outcome-if true d r h k = h refl
-  outcome-if false d r h k = k refl
+  pub outcome_if : (b : Bool) (d : Declined) (r : Read X) → (b ≡ true → D d) → (b ≡ false → Outcome F D r) → Outcome F D (fault_if b d r)
+  outcome_if true d r h k = h refl
+  outcome_if false d r h k = k refl
 
-  pub outcome-cond : (b : Bool) (r s : Read X) → (b ≡ true → Outcome F D r) → (b ≡ false → Outcome F D s) → Outcome F D (cond b r s)
-  outcome-cond true r s h k = h refl
-  outcome-cond false r s h k = k refl
+  pub outcome_cond : (b : Bool) (r s : Read X) → (b ≡ true → Outcome F D r) → (b ≡ false → Outcome F D s) → Outcome F D (cond b r s)
+  outcome_cond true r s h k = h refl
+  outcome_cond false r s h k = k refl
 
-  pub outcome-unless : (o : Option Declined) (r : Read X) → ((d : Declined) → o ≡ some d → D d) → (o ≡ none → Outcome F D r) → Outcome F D (unless o r)
-  outcome-unless none r h k = k refl
-  outcome-unless (some d) r h k = h d refl
+  pub outcome_unless : (o : Option Declined) (r : Read X) → ((d : Declined) → o ≡ some d → D d) → (o ≡ none → Outcome F D r) → Outcome F D (unless o r)
+  outcome_unless none r h k = k refl
+  outcome_unless (some d) r h k = h d refl

@@ -10,7 +10,7 @@ use Rattle.format.specs.Account.{Tent, Variation, Glyph, ShortTent, ShortVariati
 use Rattle.format.specs.Ranked.{count_below, first_below, is_first, ranked}
 use Rattle.format.specs.Glyphs.{peak, peaks_seen, same_peak, peak_score, place_of_peak, peak_rank, shared_index, shared_count, shared_peaks}
 use Rattle.format.specs.Promise.{In, here, there}
-use Rattle.format.proofs.Ranks.{ranked_rank, rank_below, ranked-below}
+use Rattle.format.proofs.Ranks.{ranked_rank, rank_below, ranked_below}
 use Rattle.format.proofs.Counts.{count_more, first_least}
 use Rattle.format.proofs.Reached.{SoundVariation, SoundGlyph, Sound}
 use Rattle.format.proofs.Lists.{length_listed, get_or_listed, in_left, in_right, in_map, all_listed}
@@ -92,7 +92,7 @@ shared_at ps p i k e =
 pub shared_keep : (P : List ℤ → Type 0) (ps : List (List ℤ)) → All P ps → All P (shared_peaks ps)
 shared_keep P ps h =
     all_listed P 0 (shared_count ps) (λ r. get_or ps (ranked (length ps) (same_peak ps) (peak_score ps) r) [])
-    (λ r l. All-get_or P ps (ranked (length ps) (same_peak ps) (peak_score ps) r) [] (ranked-below (length ps) (same_peak ps) (peak_score ps) r (fewer r l)) h)
+    (λ r l. All-get_or P ps (ranked (length ps) (same_peak ps) (peak_score ps) r) [] (ranked_below (length ps) (same_peak ps) (peak_score ps) r (fewer r l)) h)
   where
     fewer : (r : ℕ) → r < 0 + shared_count ps → r < count_below (length ps) (is_first (length ps) (same_peak ps))
     fewer r l =

@@ -5,12 +5,12 @@ use Rattle.std.proofs.lemmas.Bool.{ltb-false, eqb-false, not-false, and_from, an
 use Rattle.format.specs.Bytes.{pair}
 use Rattle.format.specs.Account.{Declined}
 use Rattle.format.specs.Packed.{Points, only}
-use Rattle.format.specs.Streams.{Read, Rest, rest, rises, points_after, last_of, read_gaps, point-run, point-runs, counted-points, long-count, read-points, and_then, found, fault}
+use Rattle.format.specs.Streams.{Read, Rest, rest, rises, points_after, last_of, read_gaps, point_run, point_runs, counted_points, long_count, read_points, and_then, found, fault}
 use Rattle.format.specs.Laws.{InRange}
 use Rattle.format.specs.Found.{Stays, FailsInside}
-use Rattle.format.proofs.Outcomes.{Outcome, of_found, of_fault, outcome_then, outcome-if, outcome-cond}
+use Rattle.format.proofs.Outcomes.{Outcome, of_found, of_fault, outcome_then, outcome_if, outcome_cond}
 use Rattle.format.proofs.Fronts.{Front, gaps_front}
-use Rattle.format.proofs.Inside.{stays_at, stays_after, stays_within, fails_at, fails-after, fails_within}
+use Rattle.format.proofs.Inside.{stays_at, stays_after, stays_within, fails_at, fails_after, fails_within}
 
 points_count : (from : ℕ) (gs : List ℕ) → length (points_after from gs) ≡ length gs
 points_count from [] = refl
@@ -40,20 +40,20 @@ module _ (d : ℕ → ℕ → Declined) (p : ℕ) where
     as_many : length s.value ≡ k
     rising : rises low p s.value ≡ true
 
-  abbrev Runs-told : ℕ → ℕ → List ℕ → ℕ → Read (Rest (List ℕ)) → Type 0
-  Runs-told k low bs at r = Outcome (Rising k low bs at) (FailsInside d 22 bs at) r
+  abbrev RunsTold : ℕ → ℕ → List ℕ → ℕ → Read (Rest (List ℕ)) → Type 0
+  RunsTold k low bs at r = Outcome (Rising k low bs at) (FailsInside d 22 bs at) r
 
   -- one run, and then the others
-  point-run-told :
+  point_run_told :
       (k n size c from low : ℕ) (bs : List ℕ) (at : ℕ) (o : Option (List ℕ × List ℕ)) (more : ℕ → ℕ → List ℕ → ℕ → Read (Rest (List ℕ))) → n ≤ k → 0 < n →
-      Front n size bs o → ((f l : ℕ) (b : List ℕ) (a : ℕ) → Runs-told (k - n) l b a (more f l b a)) →
-      Runs-told k low (c ∷ bs) at (point-run d p from low at o more (1 + size))
-  point-run-told k n size c from low bs at none more le some_gaps f ih = fails_at d 22 (c ∷ bs) at
-  point-run-told k n size c from low bs at (some r) more le some_gaps f ih =
+      Front n size bs o → ((f l : ℕ) (b : List ℕ) (a : ℕ) → RunsTold (k - n) l b a (more f l b a)) →
+      RunsTold k low (c ∷ bs) at (point_run d p from low at o more (1 + size))
+  point_run_told k n size c from low bs at none more le some_gaps f ih = fails_at d 22 (c ∷ bs) at
+  point_run_told k n size c from low bs at (some r) more le some_gaps f ih =
       let qs = points_after from r.0 in
       let last = last_of from qs in
       let then : Rest (List ℕ) → Read (Rest (List ℕ)) = λ s. found (rest (qs ++ s.value) s.left s.place) in
-      outcome-if (Rising k low (c ∷ bs) at) (FailsInside d 22 (c ∷ bs) at) (not (rises low p qs)) (d 22 at)
+      outcome_if (Rising k low (c ∷ bs) at) (FailsInside d 22 (c ∷ bs) at) (not (rises low p qs)) (d 22 at)
       (and_then (more last (suc last) r.1 (at + (1 + size))) then)
       (λ e. fails_at d 22 (c ∷ bs) at)
       (λ e.
@@ -61,66 +61,66 @@ module _ (d : ℕ → ℕ → Declined) (p : ℕ) where
       (FailsInside d 22 r.1 (at + (1 + size))) (FailsInside d 22 (c ∷ bs) at)
       (more last (suc last) r.1 (at + (1 + size))) then
       (ih last (suc last) r.1 (at + (1 + size)))
-      (fails-after c n size bs r.0 r.1 at f d 22)
+      (fails_after c n size bs r.0 r.1 at f d 22)
       (λ s h. record {
         stays = stays_after c n size bs r.0 r.1 at f s (qs ++ s.value) h.stays;
         as_many = omega (arith, length-append qs s.value, points_count from r.0, f.as_many_items, h.as_many);
         rising = run_rises low p from r.0 s.value (omega (arith, f.as_many_items)) (not-false (rises low p qs) e) h.rising;
       }))
 
-  point-runs-told : (m k from low : ℕ) (bs : List ℕ) (at : ℕ) → k ≤ m → Runs-told k low bs at (point-runs d m p k from low bs at)
-  point-runs-told zero k from low bs at le = record { stays = stays_at [] bs at; as_many = omega arith; rising = refl }
-  point-runs-told (suc m) zero from low bs at le = record { stays = stays_at [] bs at; as_many = refl; rising = refl }
-  point-runs-told (suc m) (suc k) from low [] at le = fails_at d 22 [] at
-  point-runs-told (suc m) (suc k) from low (c ∷ bs) at le =
+  point_runs_told : (m k from low : ℕ) (bs : List ℕ) (at : ℕ) → k ≤ m → RunsTold k low bs at (point_runs d m p k from low bs at)
+  point_runs_told zero k from low bs at le = record { stays = stays_at [] bs at; as_many = omega arith; rising = refl }
+  point_runs_told (suc m) zero from low bs at le = record { stays = stays_at [] bs at; as_many = refl; rising = refl }
+  point_runs_told (suc m) (suc k) from low [] at le = fails_at d 22 [] at
+  point_runs_told (suc m) (suc k) from low (c ∷ bs) at le =
       let n = suc (c % 128) in
       let size = cond (leb 128 c) (2 * n) n in
-      let more : ℕ → ℕ → List ℕ → ℕ → Read (Rest (List ℕ)) = λ f l b a. point-runs d m p (suc k - n) f l b a in
-      outcome-if (Rising (suc k) low (c ∷ bs) at) (FailsInside d 22 (c ∷ bs) at) (ltb (suc k) n) (d 22 at)
-      (point-run d p from low at (read_gaps (leb 128 c) n bs) more (1 + size))
+      let more : ℕ → ℕ → List ℕ → ℕ → Read (Rest (List ℕ)) = λ f l b a. point_runs d m p (suc k - n) f l b a in
+      outcome_if (Rising (suc k) low (c ∷ bs) at) (FailsInside d 22 (c ∷ bs) at) (ltb (suc k) n) (d 22 at)
+      (point_run d p from low at (read_gaps (leb 128 c) n bs) more (1 + size))
       (λ e. fails_at d 22 (c ∷ bs) at)
-      (λ e. point-run-told (suc k) n size c from low bs at (read_gaps (leb 128 c) n bs) more (ltb-false (suc k) n e) (omega arith) (gaps_front (leb 128 c) n bs)
-      (λ f l b a. point-runs-told m (suc k - n) f l b a (omega arith)))
+      (λ e. point_run_told (suc k) n size c from low bs at (read_gaps (leb 128 c) n bs) more (ltb-false (suc k) n e) (omega arith) (gaps_front (leb 128 c) n bs)
+      (λ f l b a. point_runs_told m (suc k - n) f l b a (omega arith)))
 
-  abbrev pub In-place : List ℕ → ℕ → Rest Points → Type 0
-  In-place bs at s = Stays bs at s × InRange p s.value
+  abbrev pub InPlace : List ℕ → ℕ → Rest Points → Type 0
+  InPlace bs at s = Stays bs at s × InRange p s.value
 
-  abbrev pub Points-told : List ℕ → ℕ → Read (Rest Points) → Type 0
-  Points-told bs at r = Outcome (In-place bs at) (FailsInside d 22 bs at) r
+  abbrev pub PointsTold : List ℕ → ℕ → Read (Rest Points) → Type 0
+  PointsTold bs at r = Outcome (InPlace bs at) (FailsInside d 22 bs at) r
 
   -- after the bytes of the count
-  counted-told : (k : ℕ) (count bs : List ℕ) (at j : ℕ) → 0 < k → length count ≡ j → Points-told (count ++ bs) at (counted-points d p k bs (at + j))
-  counted-told k count bs at j some_points e =
-      outcome_then (Rising k 0 bs (at + j)) (In-place (count ++ bs) at) (FailsInside d 22 bs (at + j)) (FailsInside d 22 (count ++ bs) at)
-      (point-runs d k p k 0 0 bs (at + j)) (λ r. found (rest (only r.value) r.left r.place))
-      (point-runs-told k k 0 0 bs (at + j) (omega arith))
+  counted_told : (k : ℕ) (count bs : List ℕ) (at j : ℕ) → 0 < k → length count ≡ j → PointsTold (count ++ bs) at (counted_points d p k bs (at + j))
+  counted_told k count bs at j some_points e =
+      outcome_then (Rising k 0 bs (at + j)) (InPlace (count ++ bs) at) (FailsInside d 22 bs (at + j)) (FailsInside d 22 (count ++ bs) at)
+      (point_runs d k p k 0 0 bs (at + j)) (λ r. found (rest (only r.value) r.left r.place))
+      (point_runs_told k k 0 0 bs (at + j) (omega arith))
       (λ x h. fails_within d 22 count bs at j x e h)
       (λ s h. (stays_within count bs at j s (only s.value) e h.stays, (omega (arith, h.as_many), h.rising)))
 
-  long-told : (c : ℕ) (bs : List ℕ) (at : ℕ) → Points-told (c ∷ bs) at (long-count d p c bs at)
-  long-told c [] at = fails_at d 22 (c ∷ []) at
-  long-told c (b ∷ bs) at =
-      outcome-if (In-place (c ∷ (b ∷ bs)) at) (FailsInside d 22 (c ∷ (b ∷ bs)) at) (eqb (pair (c - 128) b) 0) (d 22 at) (counted-points d p (pair (c - 128) b) bs (at + 2))
+  long_told : (c : ℕ) (bs : List ℕ) (at : ℕ) → PointsTold (c ∷ bs) at (long_count d p c bs at)
+  long_told c [] at = fails_at d 22 (c ∷ []) at
+  long_told c (b ∷ bs) at =
+      outcome_if (InPlace (c ∷ (b ∷ bs)) at) (FailsInside d 22 (c ∷ (b ∷ bs)) at) (eqb (pair (c - 128) b) 0) (d 22 at) (counted_points d p (pair (c - 128) b) bs (at + 2))
       (λ e. fails_at d 22 (c ∷ (b ∷ bs)) at)
-      (λ e. counted-told (pair (c - 128) b) (c ∷ (b ∷ [])) bs at 2 (not-zero (pair (c - 128) b) (eqb-false (pair (c - 128) b) 0 e)) refl)
+      (λ e. counted_told (pair (c - 128) b) (c ∷ (b ∷ [])) bs at 2 (not_zero (pair (c - 128) b) (eqb-false (pair (c - 128) b) 0 e)) refl)
     where
-      not-zero : (k : ℕ) → (k ≡ 0 → ⊥) → 0 < k
-      not-zero zero h = absurd (h refl)
-      not-zero (suc k) h = omega arith
+      not_zero : (k : ℕ) → (k ≡ 0 → ⊥) → 0 < k
+      not_zero zero h = absurd (h refl)
+      not_zero (suc k) h = omega arith
 
-  pub points-told : (bs : List ℕ) (at : ℕ) → Points-told bs at (read-points d p bs at)
-  points-told [] at = fails_at d 22 [] at
-  points-told (zero ∷ bs) at = (record { used = 0 ∷ []; used_then_left = refl; moved_by_used = refl }, tt)
-  points-told (suc c ∷ bs) at =
-      outcome-cond (In-place (suc c ∷ bs) at) (FailsInside d 22 (suc c ∷ bs) at) (leb 127 c) (long-count d p (suc c) bs at) (counted-points d p (suc c) bs (at + 1))
-      (λ e. long-told (suc c) bs at)
-      (λ e. counted-told (suc c) (suc c ∷ []) bs at 1 (omega arith) refl)
+  pub points_told : (bs : List ℕ) (at : ℕ) → PointsTold bs at (read_points d p bs at)
+  points_told [] at = fails_at d 22 [] at
+  points_told (zero ∷ bs) at = (record { used = 0 ∷ []; used_then_left = refl; moved_by_used = refl }, tt)
+  points_told (suc c ∷ bs) at =
+      outcome_cond (InPlace (suc c ∷ bs) at) (FailsInside d 22 (suc c ∷ bs) at) (leb 127 c) (long_count d p (suc c) bs at) (counted_points d p (suc c) bs (at + 1))
+      (λ e. long_told (suc c) bs at)
+      (λ e. counted_told (suc c) (suc c ∷ []) bs at 1 (omega arith) refl)
 
-  pub points-stay-inside :
+  pub points_stay_inside :
       (bs : List ℕ) (at : ℕ) →
-      ((s : Rest Points) → read-points d p bs at ≡ found s → Stays bs at s × InRange p s.value)
-      × ((x : Declined) → read-points d p bs at ≡ fault x → FailsInside d 22 bs at x)
-  points-stay-inside bs at = (
-    (λ s e. of_found (In-place bs at) (FailsInside d 22 bs at) (read-points d p bs at) s (points-told bs at) e),
-    (λ x e. of_fault (In-place bs at) (FailsInside d 22 bs at) (read-points d p bs at) x (points-told bs at) e),
+      ((s : Rest Points) → read_points d p bs at ≡ found s → Stays bs at s × InRange p s.value)
+      × ((x : Declined) → read_points d p bs at ≡ fault x → FailsInside d 22 bs at x)
+  points_stay_inside bs at = (
+    (λ s e. of_found (InPlace bs at) (FailsInside d 22 bs at) (read_points d p bs at) s (points_told bs at) e),
+    (λ x e. of_fault (InPlace bs at) (FailsInside d 22 bs at) (read_points d p bs at) x (points_told bs at) e),
   )

@@ -3,7 +3,7 @@ use Rattle.std.proofs.Common.{◌≡◌, ℕ, ◌<◌, Bool, true, false, ◌&&�
 use Rattle.std.proofs.lemmas.Bool.{and_parts, and_from, lt-ltb, eq-eqb, eqb-true}
 use Rattle.std.proofs.lemmas.Bool.Decides.{nat_tests}
 use Rattle.format.specs.Ranked.{count_below, is_first, before, rank, ranked}
-use Rattle.format.proofs.Counts.{count_less, first_only, each-given}
+use Rattle.format.proofs.Counts.{count_less, first_only, each_given}
 
 -- the order of classes
 before_trans : (score : ℕ → ℕ) (a b c : ℕ) → before score a b ≡ true → before score b c ≡ true → before score a c ≡ true
@@ -22,8 +22,8 @@ module _ (n : ℕ) (same : ℕ → ℕ → Bool) (score : ℕ → ℕ) where
       (λ i m h. let a = and_parts (is_first n same i) (before score i c) h in and_from (is_first n same i) (before score i d) a.0 (before_trans score i c d a.1 b))
       c l (rw (f, before_irrefl score c)) (and_from (is_first n same c) (before score c d) f b)
 
-  pub rank-tells : (c d : ℕ) → c < n → d < n → is_first n same c ≡ true → is_first n same d ≡ true → rank n same score c ≡ rank n same score d → c ≡ d
-  rank-tells c d lc ld fc fd e = by (before score c d) refl (before score d c) refl
+  pub rank_tells : (c d : ℕ) → c < n → d < n → is_first n same c ≡ true → is_first n same d ≡ true → rank n same score c ≡ rank n same score d → c ≡ d
+  rank_tells c d lc ld fc fd e = by (before score c d) refl (before score d c) refl
     where
       by : (x : Bool) → before score c d ≡ x → (y : Bool) → before score d c ≡ y → c ≡ d
       by true h y k = absurd (omega (arith, rank_less c d lc fc h))
@@ -37,7 +37,7 @@ ranked_rank n same score c l f =
     (and_from (is_first n same c) (eqb (rank n same score c) (rank n same score c)) f (eq-eqb (rank n same score c) (rank n same score c) refl))
     (λ i m h.
     let a = and_parts (is_first n same i) (eqb (rank n same score i) (rank n same score c)) h in
-    rank-tells n same score i c m l a.0 f (eqb-true (rank n same score i) (rank n same score c) a.1))
+    rank_tells n same score i c m l a.0 f (eqb-true (rank n same score i) (rank n same score c) a.1))
 
 module _ (n : ℕ) (same : ℕ → ℕ → Bool) (score : ℕ → ℕ) where
   -- a class that scores above s has a rank below the number of those
@@ -56,8 +56,8 @@ module _ (n : ℕ) (same : ℕ → ℕ → Bool) (score : ℕ → ℕ) where
       itself = grind (arith, nat_tests)
 
   -- each rank below the number of classes is that of a class
-  pub ranked-below : (r : ℕ) → r < count_below n (is_first n same) → ranked n same score r < n
-  ranked-below r l = each-given n (is_first n same) (rank n same score) (λ c d. rank-tells n same score c d) below r l
+  pub ranked_below : (r : ℕ) → r < count_below n (is_first n same) → ranked n same score r < n
+  ranked_below r l = each_given n (is_first n same) (rank n same score) (λ c d. rank_tells n same score c d) below r l
     where
       itself : (c : ℕ) → before score c c ≡ false
       itself c = grind (arith, nat_tests)

@@ -9,7 +9,7 @@ use Rattle.std.proofs.lemmas.Bool.Decides.{nat_tests}
 use Rattle.format.specs.Bytes.{bits8, bits16, signed8, signed16, Short, joined}
 use Rattle.format.specs.Account.{Declined}
 use Rattle.format.specs.Packed.{Kind, zeros, bytes, words, Run, run_bytes, value_bytes, control, kind, is_zero, is_word, stops, extent, cut_at_most, cut, packed_deltas}
-use Rattle.format.specs.Streams.{rest, read_values, run_kind, held, delta-runs, read-deltas, found, and_then}
+use Rattle.format.specs.Streams.{rest, read_values, run_kind, held, delta_runs, read_deltas, found, and_then}
 use Rattle.format.proofs.Words.{signed16_back, bits16_fits, signed8_back, words_back, bytes_back}
 
 -- Deltas: any cut into runs, each of 1 to 64 values that its kind holds, is read back
@@ -69,14 +69,14 @@ held_length words (z ∷ zs) = let e = held_length words zs in omega arith
 -- one run off the front
 run_back :
     (d : ℕ → ℕ → Declined) (m : ℕ) (k : Kind) (v : ℤ) (vs more : List ℤ) (bs : List ℕ) (at : ℕ) → length vs < 64 → All (Holds k) (v ∷ vs) →
-    delta-runs d (suc m) (length (v ∷ vs ++ more)) (control k (suc (length vs)) ∷ (joined (map (value_bytes k) (v ∷ vs)) ++ bs)) at
-    ≡ and_then (delta-runs d m (length more) bs (at + (1 + held k (suc (length vs))))) (λ s. found (rest (v ∷ vs ++ s.value) s.left s.place))
+    delta_runs d (suc m) (length (v ∷ vs ++ more)) (control k (suc (length vs)) ∷ (joined (map (value_bytes k) (v ∷ vs)) ++ bs)) at
+    ≡ and_then (delta_runs d m (length more) bs (at + (1 + held k (suc (length vs))))) (λ s. found (rest (v ∷ vs ++ s.value) s.left s.place))
 run_back d m k v vs more bs at few h =
     let e = length-append vs more in
     let left : suc (length (vs ++ more)) - suc (length vs) ≡ length more = omega arith in
     rw (control_count k (length vs) few, le-ltb (suc (length (vs ++ more))) (suc (length vs)) (omega arith), control_kind k (length vs) few, values_back k (v ∷ vs) bs h, left)
 
-none_back : (d : ℕ → ℕ → Declined) (m : ℕ) (r : List ℕ) (at : ℕ) → delta-runs d m 0 r at ≡ found (rest [] r (at + 0))
+none_back : (d : ℕ → ℕ → Declined) (m : ℕ) (r : List ℕ) (at : ℕ) → delta_runs d m 0 r at ≡ found (rest [] r (at + 0))
 none_back d zero r at = rw add-zero
 none_back d (suc m) r at = rw add-zero
 
@@ -84,8 +84,8 @@ none_back d (suc m) r at = rw add-zero
 more_back :
     (d : ℕ → ℕ → Declined) (m : ℕ) (k : Kind) (zs more : List ℤ) (bs r : List ℕ) (at : ℕ) →
     0 < length zs → length zs ≤ 64 → All (Holds k) zs → length (zs ++ more) ≤ m →
-    ((m' at' : ℕ) → length more ≤ m' → delta-runs d m' (length more) (bs ++ r) at' ≡ found (rest more r (at' + length bs))) →
-    delta-runs d m (length (zs ++ more)) (((control k (length zs) ∷ joined (map (value_bytes k) zs)) ++ bs) ++ r) at
+    ((m' at' : ℕ) → length more ≤ m' → delta_runs d m' (length more) (bs ++ r) at' ≡ found (rest more r (at' + length bs))) →
+    delta_runs d m (length (zs ++ more)) (((control k (length zs) ∷ joined (map (value_bytes k) zs)) ++ bs) ++ r) at
     ≡ found (rest (zs ++ more) r (at + length ((control k (length zs) ∷ joined (map (value_bytes k) zs)) ++ bs)))
 more_back d m k [] more bs r at some_values few fit le ih = absurd (omega arith)
 more_back d zero k (v ∷ vs) more bs r at some_values few fit le ih = absurd (omega arith)
@@ -97,7 +97,7 @@ more_back d (suc m) k (v ∷ vs) more bs r at some_values few fit le ih =
 
 pub deltas_back :
     (d : ℕ → ℕ → Declined) (m : ℕ) (rs : List Run) (r : List ℕ) (at : ℕ) → All Lawful rs → length (all_values rs) ≤ m →
-    delta-runs d m (length (all_values rs)) (joined (map run_bytes rs) ++ r) at ≡ found (rest (all_values rs) r (at + length (joined (map run_bytes rs))))
+    delta_runs d m (length (all_values rs)) (joined (map run_bytes rs) ++ r) at ≡ found (rest (all_values rs) r (at + length (joined (map run_bytes rs))))
 deltas_back d m [] r at h le = none_back d m r at
 deltas_back d m (run ∷ rs) r at h le =
     more_back d m run.of run.values (all_values rs) (joined (map run_bytes rs)) r at h.0.some_values h.0.few h.0.fit le
@@ -117,16 +117,16 @@ kind_not_word (negsuc n) e = grind (arith, nat_tests)
 
 kind_holds : (z : ℤ) → Short z → Holds (kind z) z
 kind_holds (pos zero) h = refl
-kind_holds (pos (suc n)) h = by-test (ltb (suc n) 128) refl
+kind_holds (pos (suc n)) h = by_test (ltb (suc n) 128) refl
   where
-    by-test : (b : Bool) → ltb (suc n) 128 ≡ b → Holds (cond b bytes words) (pos (suc n))
-    by-test true e = ltb-true (suc n) 128 e
-    by-test false e = h
-kind_holds (negsuc n) h = by-test (ltb n 128) refl
+    by_test : (b : Bool) → ltb (suc n) 128 ≡ b → Holds (cond b bytes words) (pos (suc n))
+    by_test true e = ltb-true (suc n) 128 e
+    by_test false e = h
+kind_holds (negsuc n) h = by_test (ltb n 128) refl
   where
-    by-test : (b : Bool) → ltb n 128 ≡ b → Holds (cond b bytes words) (negsuc n)
-    by-test true e = ltb-true n 128 e
-    by-test false e = h
+    by_test : (b : Bool) → ltb n 128 ≡ b → Holds (cond b bytes words) (negsuc n)
+    by_test true e = ltb-true n 128 e
+    by_test false e = h
 
 goes_on : (k : Kind) (z : ℤ) (zs : List ℤ) → Short z → stops k z zs ≡ false → Holds k z
 goes_on zeros z zs h e = kind_zero z (not-false (is_zero (kind z)) e)
@@ -136,11 +136,11 @@ goes_on words z zs h e = h
 taken_holds : (k : Kind) (n : ℕ) (zs : List ℤ) → All Short zs → All (Holds k) (take (extent k n zs) zs)
 taken_holds k zero zs h = tt
 taken_holds k (suc n) [] h = tt
-taken_holds k (suc n) (z ∷ zs) h = by-test (stops k z zs) refl (taken_holds k n zs h.1)
+taken_holds k (suc n) (z ∷ zs) h = by_test (stops k z zs) refl (taken_holds k n zs h.1)
   where
-    by-test : (b : Bool) → stops k z zs ≡ b → All (Holds k) (take (extent k n zs) zs) → All (Holds k) (take (cond b 0 (suc (extent k n zs))) (z ∷ zs))
-    by-test true e t = tt
-    by-test false e t = (goes_on k z zs h.0 e, t)
+    by_test : (b : Bool) → stops k z zs ≡ b → All (Holds k) (take (extent k n zs) zs) → All (Holds k) (take (cond b 0 (suc (extent k n zs))) (z ∷ zs))
+    by_test true e t = tt
+    by_test false e t = (goes_on k z zs h.0 e, t)
 
 extent_most : (k : Kind) (n : ℕ) (zs : List ℤ) → extent k n zs ≤ n
 extent_most k zero zs = omega arith
@@ -172,7 +172,7 @@ cut_lawful (suc m) (z ∷ zs) h =
 -- packed deltas are read back, whatever follows them
 pub packed_deltas_back :
     (d : ℕ → ℕ → Declined) (zs : List ℤ) (r : List ℕ) (at : ℕ) → All Short zs →
-    read-deltas d (length zs) (packed_deltas zs ++ r) at ≡ found (rest zs r (at + length (packed_deltas zs)))
+    read_deltas d (length zs) (packed_deltas zs ++ r) at ≡ found (rest zs r (at + length (packed_deltas zs)))
 packed_deltas_back d zs r at h =
     let v = cut_values (length zs) zs (omega arith) in
     let b = deltas_back d (length zs) (cut zs) r at (cut_lawful (length zs) zs h) (omega (arith, ap length v)) in

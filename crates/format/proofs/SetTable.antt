@@ -18,7 +18,7 @@ use Rattle.format.proofs.Peaks.{SoundPeak, index_finds, index_small, few_shared_
 use Rattle.format.proofs.Padded.{pad, padded_pad}
 use Rattle.format.proofs.TableFront.{data_start, offsets_of}
 use Rattle.format.proofs.TableParts.{checked_of, formed_peak, Fitting}
-use Rattle.format.proofs.Tables.{table-back, table-small, glyph-read-of}
+use Rattle.format.proofs.Tables.{table_back, table_small, glyph_read_of}
 use Rattle.format.proofs.Slots.{PeakThere, Readable, padded_slot_read_back}
 use Rattle.format.proofs.Movements.{agree_from_entries}
 use Rattle.format.proofs.Lists.{all_in, test_listed, all_from}
@@ -55,7 +55,7 @@ set_fitting a gs few sound short full small =
 
 pub set_small : (a : ℕ) (gs : List Glyph) → a ≤ 65535 → Sound a gs → ShortSet gs → numbers_full gs ≡ true → even_total (glyphs_bytes gs) ≤ 67108864 → length (table_bytes a gs) < 4294967296
 unfolding table_bytes
-set_small a gs few sound short full small = table-small a (shared_peaks (peaks_seen gs)) (glyphs_bytes gs) (set_fitting a gs few sound short full small)
+set_small a gs few sound short full small = table_small a (shared_peaks (peaks_seen gs)) (glyphs_bytes gs) (set_fitting a gs few sound short full small)
 
 -- A granted set
 
@@ -67,21 +67,21 @@ module _ (a : ℕ) (gs : List Glyph) (cells allowance n : ℕ) (few : a ≤ 6553
   check = checked_of (is_short (glyphs_bytes gs)) a (shared_peaks (peaks_seen gs)) (glyphs_bytes gs)
 
   module _ (g : Glyph) (one : In g gs) (p : ℕ) (number : DeltasNumber g.variations p) where
-    sound-one : SoundGlyph a g
-    sound-one = all_in (SoundGlyph a) g gs one sound.each_glyph
+    sound_one : SoundGlyph a g
+    sound_one = all_in (SoundGlyph a) g gs one sound.each_glyph
 
     readable : Readable check a p (peaks_seen gs) g.variations
     readable =
         let vs = g.variations in
-        let s = sound-one.each_variation in
+        let s = sound_one.each_variation in
         let k = all_in (λ (g : Glyph). All ShortVariation g.variations) g gs one short in
         let f = fits_of a cells allowance n g gs one sound.numbers_apart is in
         record {
           axes_agree = refl;
           points_few = points_few a p vs s number;
-          variations_few = sound-one.few_variations;
+          variations_few = sound_one.few_variations;
           tents_number = All-weaker (SoundVariation a) _ (λ v t. t.tents_number) vs s;
-          deltas_number = sound-one.alike p number;
+          deltas_number = sound_one.alike p number;
           short_tents = All-weaker ShortVariation _ (λ v t. t.0) vs k;
           short_deltas = All-weaker ShortVariation _ (λ v t. t.1) vs k;
           data_fits = f.data_fits;
@@ -95,16 +95,16 @@ module _ (a : ℕ) (gs : List Glyph) (cells allowance n : ℕ) (few : a ≤ 6553
         }
 
     -- the two accounts of each glyph agree
-    pub granted-agrees : Agree a (table_bytes a gs) g p
+    pub granted_agrees : Agree a (table_bytes a gs) g p
     unfolding table_bytes
-    granted-agrees =
+    granted_agrees =
         let s = is_short (glyphs_bytes gs) in
         let ps = peaks_seen gs in
         let b = glyph_bytes ps g.variations in
         let at = data_start s (shared_peaks ps) (glyphs_bytes gs) + get_or (offsets_of s (glyphs_bytes gs)) g.number 0 in
         let r = padded_slot_read_back s check a g.number p at ps g.variations readable in
         agree_from_entries a (table_bytes a gs) g p r.entries
-        (glyph-read-of a (shared_peaks ps) (glyphs_bytes gs) fits g.number p
+        (glyph_read_of a (shared_peaks ps) (glyphs_bytes gs) fits g.number p
         (subst (λ (k : ℕ). g.number < k) (sym (length_glyphs_bytes gs)) (number_below g gs one is.full)) readable.points_few
         ∙ ap (λ (bs : List ℕ). read_bytes_of_slot check g.number p (bs ++ pad s bs) at) (bytes_of g gs one sound.numbers_apart is.full)
         ∙ ap (λ (bs : List ℕ). read_bytes_of_slot check g.number p bs at) (sym (padded_pad s b))
@@ -112,12 +112,12 @@ module _ (a : ℕ) (gs : List Glyph) (cells allowance n : ℕ) (few : a ≤ 6553
         r.each_gives_its_variation_back
 
   -- no glyph but those begun is there
-  pub no-other-glyph : (i p : ℕ) → begun i gs ≡ false → read_glyph (table_bytes a gs) i p ≡ fault (declined 20 (some i) none none)
+  pub no_other_glyph : (i p : ℕ) → begun i gs ≡ false → read_glyph (table_bytes a gs) i p ≡ fault (declined 20 (some i) none none)
   unfolding table_bytes read_glyph
-  no-other-glyph i p e =
+  no_other_glyph i p e =
       let t = table_bytes a gs in
-      let b = table-back a (shared_peaks (peaks_seen gs)) (glyphs_bytes gs) fits in
-      let n : (checked t).glyph_count ≡ length gs = b.glyph-count-back ∙ length_glyphs_bytes gs in
+      let b = table_back a (shared_peaks (peaks_seen gs)) (glyphs_bytes gs) fits in
+      let n : (checked t).glyph_count ≡ length gs = b.glyph_count_back ∙ length_glyphs_bytes gs in
       let l : leb (checked t).glyph_count i ≡ true = ap (λ (k : ℕ). leb k i) n ∙ le-leb (length gs) i (past i gs is.full e) in
       ap (λ (o : Option Declined). unless o (read_slot (checked t) i p)) b.no_fault
       ∙ ap (λ (c : Bool). fault_if (c || ltb 32767 p) (declined 20 (some i) none none) (read_bytes_of_slot (checked t) i p (slot_bytes (checked t) i) ((checked t).data_at + offset_of (checked t) i))) l

@@ -7,15 +7,15 @@ use Rattle.format.specs.Account.{Variation, Declined}
 use Rattle.format.specs.Packed.{Points, every, packed_points}
 use Rattle.format.specs.Glyphs.{stored_points, point_sets, shared_points, set_count, same_set, set_score, shared_part, shared_flag}
 use Rattle.format.specs.Ranked.{ranked}
-use Rattle.format.specs.Streams.{rest, read-points, found}
-use Rattle.format.specs.Reader.{Checked, Header, Entry, is_embedded, peak_index, read-headers, read_shared, read_entries, at_end, read_store, at_slot}
+use Rattle.format.specs.Streams.{rest, read_points, found}
+use Rattle.format.specs.Reader.{Checked, Header, Entry, is_embedded, peak_index, read_headers, read_shared, read_entries, at_end, read_store, at_slot}
 use Rattle.format.proofs.Stored.{stored_points_back}
 use Rattle.format.proofs.EntriesBack.{no_peak_amiss}
 use Rattle.format.proofs.EntryBack.{shared_or_every}
 
 -- the shared points of a glyph are read back
 abbrev pub PointsBack : ℕ → Points → Type 0
-PointsBack p q = (d : ℕ → ℕ → Declined) (r : List ℕ) (at : ℕ) → read-points d p (packed_points q ++ r) at ≡ found (rest q r (at + length (packed_points q)))
+PointsBack p q = (d : ℕ → ℕ → Declined) (r : List ℕ) (at : ℕ) → read_points d p (packed_points q ++ r) at ≡ found (rest q r (at + length (packed_points q)))
 
 abbrev pub SharedBack : ℕ → Option Points → Type 0
 SharedBack p none = Unit {0}
@@ -25,7 +25,7 @@ set_back : (p : ℕ) (vs : List Variation) (b : ℕ) → p ≤ 32767 → All (λ
 set_back p [] b few h d r at = refl
 set_back p (v ∷ vs) zero few h d r at =
     let q = stored_points v.deltas in
-    subst (λ (n : ℕ). read-points d n (packed_points q ++ r) at ≡ found (rest q r (at + length (packed_points q)))) h.0 (stored_points_back d v.deltas r at (omega (arith, h.0)))
+    subst (λ (n : ℕ). read_points d n (packed_points q ++ r) at ≡ found (rest q r (at + length (packed_points q)))) h.0 (stored_points_back d v.deltas r at (omega (arith, h.0)))
 set_back p (v ∷ vs) (suc b) few h d r at = set_back p vs b few h.1 d r at
 
 pub shared_set_back : (p : ℕ) (vs : List Variation) → p ≤ 32767 → All (λ v. length v.deltas ≡ p) vs → SharedBack p (shared_points (point_sets vs))
@@ -72,7 +72,7 @@ pub store_back :
     (c : Checked) (g p count offset : ℕ) (slot : List ℕ) (at k : ℕ) (b : Bool) (hs : List Header) (hb sb db pad : List ℕ) (sh : Points) (es : List Entry) →
     count % 4096 ≡ k → leb 32768 count ≡ b → offset ≡ 4 + length hb → offset ≤ length slot →
     drop 4 slot ≡ hb ++ (sb ++ (db ++ pad)) → drop offset slot ≡ sb ++ (db ++ pad) →
-    read-headers g c.axes 0 k (hb ++ (sb ++ (db ++ pad))) (at + 4) ≡ found (rest hs (sb ++ (db ++ pad)) ((at + 4) + length hb)) →
+    read_headers g c.axes 0 k (hb ++ (sb ++ (db ++ pad))) (at + 4) ≡ found (rest hs (sb ++ (db ++ pad)) ((at + 4) + length hb)) →
     All (λ h. (not (is_embedded h.index) && leb c.peak_count (peak_index h.index)) ≡ false) hs →
     read_shared g p b (sb ++ (db ++ pad)) (at + offset) ≡ found (rest sh (db ++ pad) ((at + offset) + length sb)) →
     read_entries c g p sh 0 hs (db ++ pad) ((at + offset) + length sb) ≡ found (rest es pad (((at + offset) + length sb) + length db)) →

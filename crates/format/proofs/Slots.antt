@@ -14,8 +14,8 @@ use Rattle.format.specs.Promise.{InStep, GivesBack}
 use Rattle.format.proofs.Padded.{pad, padded_pad, pad_either}
 use Rattle.format.proofs.Words.{word_pair}
 use Rattle.format.proofs.Gives.{There, front_dropped}
-use Rattle.format.proofs.EntriesBack.{headers_at, headers-back, headers-all, headers-in-step, Reads, entries-back}
-use Rattle.format.proofs.EntryBack.{ReadableOne, header, shared_or_every, one-header-back, one-peak-there, one-entry-back}
+use Rattle.format.proofs.EntriesBack.{headers_at, headers_back, headers_all, headers_in_step, Reads, entries_back}
+use Rattle.format.proofs.EntryBack.{ReadableOne, header, shared_or_every, one_header_back, one_peak_there, one_entry_back}
 use Rattle.format.proofs.SlotParts.{SharedBack, shared_set_back, shared_back, is_some, count_fits, count_back, flag_back, Pad, store_back}
 
 -- the shared peak that a variation names is in the table
@@ -76,13 +76,13 @@ parts_back c g p ps s vs pad at few_points few fits all-vs shared pads =
     let o = 4 + length hb in
     let slot = word n ++ (word o ++ (hb ++ (sb ++ (db ++ pad)))) in
     let hs = headers_at (header_bytes ps s) (header c.axes ps s) vs (at + 4) in
-    let hh = headers-back g c.axes (header_bytes ps s) (header c.axes ps s) 0 vs (sb ++ (db ++ pad)) (at + 4)
-    (All-weaker (ReadableOne c p ps s) _ (λ v f. one-header-back c p ps s v few_points f) vs all-vs) in
-    let pk = headers-all g c.axes (header_bytes ps s) (header c.axes ps s) (λ h. (not (is_embedded h.index) && leb c.peak_count (peak_index h.index)) ≡ false) vs (at + 4)
-    (All-weaker (ReadableOne c p ps s) _ (λ v f. one-peak-there c p ps s v few_points f) vs all-vs) in
-    let st = headers-in-step g c.axes (header_bytes ps s) (header c.axes ps s) (λ v h. Reads c p (shared_or_every s) (data_bytes s v) v h) vs (at + 4)
-    (All-weaker (ReadableOne c p ps s) _ (λ v f. one-entry-back c p ps s v few_points f) vs all-vs) in
-    let es = entries-back c g p (shared_or_every s) (data_bytes s) 0 vs hs pad ((at + o) + length sb) st in
+    let hh = headers_back g c.axes (header_bytes ps s) (header c.axes ps s) 0 vs (sb ++ (db ++ pad)) (at + 4)
+    (All-weaker (ReadableOne c p ps s) _ (λ v f. one_header_back c p ps s v few_points f) vs all-vs) in
+    let pk = headers_all g c.axes (header_bytes ps s) (header c.axes ps s) (λ h. (not (is_embedded h.index) && leb c.peak_count (peak_index h.index)) ≡ false) vs (at + 4)
+    (All-weaker (ReadableOne c p ps s) _ (λ v f. one_peak_there c p ps s v few_points f) vs all-vs) in
+    let st = headers_in_step g c.axes (header_bytes ps s) (header c.axes ps s) (λ v h. Reads c p (shared_or_every s) (data_bytes s v) v h) vs (at + 4)
+    (All-weaker (ReadableOne c p ps s) _ (λ v f. one_entry_back c p ps s v few_points f) vs all-vs) in
+    let es = entries_back c g p (shared_or_every s) (data_bytes s) 0 vs hs pad ((at + o) + length sb) st in
     record {
       entries = es.0;
       reader_finds_them =

@@ -8,7 +8,7 @@ use Rattle.format.specs.Bytes.{Short, passing}
 use Rattle.format.specs.Account.{Delta, Variation, Declined, ShortDelta}
 use Rattle.format.specs.Packed.{Points, every, only, packed_deltas, packed_points}
 use Rattle.format.specs.Glyphs.{required_from, required_deltas, xs_of, ys_of, coordinates, stores_all, all_required, none_required, size_all, size_required, stored_points, stored_deltas, listed, is_shared, data_bytes}
-use Rattle.format.specs.Streams.{rest, rises, read-points, read-deltas, found, and_then}
+use Rattle.format.specs.Streams.{rest, rises, read_points, read_deltas, found, and_then}
 use Rattle.format.specs.Reader.{nothing_left, points_of, Checked, Header, is_private, entry_of, read_entry}
 use Rattle.format.proofs.Runs.{packed_deltas_back}
 use Rattle.format.proofs.Points.{Storable, packed_points_back}
@@ -71,11 +71,11 @@ stored_count ds = by (stores_all ds)
 -- the points alone, before whatever follows
 pub stored_points_back :
     (d : ℕ → ℕ → Declined) (ds : List Delta) (r : List ℕ) (at : ℕ) → length ds ≤ 32767 →
-    read-points d (length ds) (packed_points (stored_points ds) ++ r) at ≡ found (rest (stored_points ds) r (at + length (packed_points (stored_points ds))))
+    read_points d (length ds) (packed_points (stored_points ds) ++ r) at ≡ found (rest (stored_points ds) r (at + length (packed_points (stored_points ds))))
 stored_points_back d ds r at h = by (stores_all ds) refl
   where
     by : (b : Bool) → stores_all ds ≡ b →
-        read-points d (length ds) (packed_points (cond b every (only (required_from 0 ds))) ++ r) at
+        read_points d (length ds) (packed_points (cond b every (only (required_from 0 ds))) ++ r) at
         ≡ found (rest (cond b every (only (required_from 0 ds))) r (at + length (packed_points (cond b every (only (required_from 0 ds))))))
     by true e = refl
     by false e =
@@ -107,18 +107,18 @@ short_ys (d ∷ ds) h = (h.0.1, short_ys ds h.1)
 
 coordinates_back :
     {X : Type 0} (d : ℕ → ℕ → Declined) (f : List ℤ → List ℤ → X) (ds : List Delta) (k at : ℕ) → All ShortDelta ds → k ≡ length ds →
-    and_then (read-deltas d k (coordinates ds) at) (λ x. and_then (read-deltas d k x.left x.place) (λ y. nothing_left d y.place (f x.value y.value) y.left))
+    and_then (read_deltas d k (coordinates ds) at) (λ x. and_then (read_deltas d k x.left x.place) (λ y. nothing_left d y.place (f x.value y.value) y.left))
     ≡ found (f (xs_of ds) (ys_of ds))
 coordinates_back d f ds k at h e =
     let kx : k ≡ length (xs_of ds) = e ∙ sym (length-map ds (λ d. d.x)) in
     let ky : k ≡ length (ys_of ds) = e ∙ sym (length-map ds (λ d. d.y)) in
     let bx = packed_deltas_back d (xs_of ds) (packed_deltas (ys_of ds)) at (short_xs ds h) in
     let by = packed_deltas_back d (ys_of ds) [] (at + length (packed_deltas (xs_of ds))) (short_ys ds h) in
-    let bx' : read-deltas d k (coordinates ds) at ≡ found (rest (xs_of ds) (packed_deltas (ys_of ds)) (at + length (packed_deltas (xs_of ds)))) =
-    subst (λ (n : ℕ). read-deltas d n (coordinates ds) at ≡ found (rest (xs_of ds) (packed_deltas (ys_of ds)) (at + length (packed_deltas (xs_of ds))))) (sym kx) bx in
-    let by' : read-deltas d k (packed_deltas (ys_of ds)) (at + length (packed_deltas (xs_of ds))) ≡ found (rest (ys_of ds) [] ((at + length (packed_deltas (xs_of ds))) + length (packed_deltas (ys_of ds)))) =
-    subst (λ (n : ℕ). read-deltas d n (packed_deltas (ys_of ds)) (at + length (packed_deltas (xs_of ds))) ≡ found (rest (ys_of ds) [] ((at + length (packed_deltas (xs_of ds))) + length (packed_deltas (ys_of ds))))) (sym ky)
-    (subst (λ (bs : List ℕ). read-deltas d (length (ys_of ds)) bs (at + length (packed_deltas (xs_of ds))) ≡ found (rest (ys_of ds) [] ((at + length (packed_deltas (xs_of ds))) + length (packed_deltas (ys_of ds))))) (append-nil (packed_deltas (ys_of ds))) by) in
+    let bx' : read_deltas d k (coordinates ds) at ≡ found (rest (xs_of ds) (packed_deltas (ys_of ds)) (at + length (packed_deltas (xs_of ds)))) =
+    subst (λ (n : ℕ). read_deltas d n (coordinates ds) at ≡ found (rest (xs_of ds) (packed_deltas (ys_of ds)) (at + length (packed_deltas (xs_of ds))))) (sym kx) bx in
+    let by' : read_deltas d k (packed_deltas (ys_of ds)) (at + length (packed_deltas (xs_of ds))) ≡ found (rest (ys_of ds) [] ((at + length (packed_deltas (xs_of ds))) + length (packed_deltas (ys_of ds)))) =
+    subst (λ (n : ℕ). read_deltas d n (packed_deltas (ys_of ds)) (at + length (packed_deltas (xs_of ds))) ≡ found (rest (ys_of ds) [] ((at + length (packed_deltas (xs_of ds))) + length (packed_deltas (ys_of ds))))) (sym ky)
+    (subst (λ (bs : List ℕ). read_deltas d (length (ys_of ds)) bs (at + length (packed_deltas (xs_of ds))) ≡ found (rest (ys_of ds) [] ((at + length (packed_deltas (xs_of ds))) + length (packed_deltas (ys_of ds))))) (append-nil (packed_deltas (ys_of ds))) by) in
     rw (bx', by')
 
 -- an entry, from a variation's data; the points are private, or those that are shared
@@ -129,20 +129,20 @@ pub entry_back :
     (is_shared s (stored_points v.deltas) ≡ true → shared ≡ stored_points v.deltas) →
     read_entry c d (length v.deltas) shared h (data_bytes s v) at
     ≡ found (entry_of c h (length v.deltas) (stored_points v.deltas) (xs_of (stored_deltas v.deltas)) (ys_of (stored_deltas v.deltas)))
-entry_back c d s shared h v at few short private same = by-test (is_shared s (stored_points v.deltas)) private same
+entry_back c d s shared h v at few short private same = by_test (is_shared s (stored_points v.deltas)) private same
   where
     ds : List Delta
     ds = v.deltas
 
     coords : (a : ℕ) →
-        and_then (read-deltas d (length (points_of (length ds) (stored_points ds))) (coordinates (stored_deltas ds)) a)
-        (λ x. and_then (read-deltas d (length (points_of (length ds) (stored_points ds))) x.left x.place)
+        and_then (read_deltas d (length (points_of (length ds) (stored_points ds))) (coordinates (stored_deltas ds)) a)
+        (λ x. and_then (read_deltas d (length (points_of (length ds) (stored_points ds))) x.left x.place)
         (λ y. nothing_left d y.place (entry_of c h (length ds) (stored_points ds) x.value y.value) y.left))
         ≡ found (entry_of c h (length ds) (stored_points ds) (xs_of (stored_deltas ds)) (ys_of (stored_deltas ds)))
     coords a = coordinates_back d (λ xs ys. entry_of c h (length ds) (stored_points ds) xs ys) (stored_deltas ds) (length (points_of (length ds) (stored_points ds))) a (stored_short ds short) (stored_count ds)
 
-    by-test : (b : Bool) → is_private h.index ≡ not b → (b ≡ true → shared ≡ stored_points ds) →
+    by_test : (b : Bool) → is_private h.index ≡ not b → (b ≡ true → shared ≡ stored_points ds) →
         read_entry c d (length ds) shared h (cond b [] (packed_points (stored_points ds)) ++ coordinates (stored_deltas ds)) at
         ≡ found (entry_of c h (length ds) (stored_points ds) (xs_of (stored_deltas ds)) (ys_of (stored_deltas ds)))
-    by-test true e f = rw (e, f refl) (coords at)
-    by-test false e f = rw (e, stored_points_back d ds (coordinates (stored_deltas ds)) at few) (coords (at + length (packed_points (stored_points ds))))
+    by_test true e f = rw (e, f refl) (coords at)
+    by_test false e f = rw (e, stored_points_back d ds (coordinates (stored_deltas ds)) at few) (coords (at + length (packed_points (stored_points ds))))

@@ -11,7 +11,7 @@ use Rattle.format.specs.Table.{glyphs_bytes, even_total, is_short, padded, table
 use Rattle.format.specs.Reader.{word_at}
 use Rattle.format.specs.Answers.{peaks_bytes, Formed, ShortOrLong}
 use Rattle.format.proofs.Padded.{padded_even, width, offsets_size, peaks_size}
-use Rattle.format.proofs.TableFront.{front-flags, front-size, slots_of, offsets_of, offsets_part, peaks_part, peaks_start, data_start, formed, table_formed}
+use Rattle.format.proofs.TableFront.{front_flags, front_size, slots_of, offsets_of, offsets_part, peaks_part, peaks_start, data_start, formed, table_formed}
 use Rattle.format.proofs.TableParts.{offsets_count}
 use Rattle.format.proofs.Reached.{SoundVariation, SoundGlyph, Sound, reached}
 use Rattle.format.proofs.Peaks.{length_shared_peaks, shared_keep}
@@ -37,14 +37,14 @@ module _ (s : Bool) (a : ℕ) (ps : List (List ℤ)) (bs : List (List ℕ)) wher
   abbrev after_front : List ℕ
   after_front = offsets_part s bs ++ (peaks_part ps ++ joined (slots_of s bs))
 
-  formed-flags : word_at (formed s a ps bs) 14 ≡ cond s 0 1
+  formed_flags : word_at (formed s a ps bs) 14 ≡ cond s 0 1
   unfolding formed
-  formed-flags = front-flags a (length ps) (peaks_start s bs) (length bs) (cond s 0 1) (data_start s ps bs) after_front (flag_small s)
+  formed_flags = front_flags a (length ps) (peaks_start s bs) (length bs) (cond s 0 1) (data_start s ps bs) after_front (flag_small s)
 
-  formed-size : length (formed s a ps bs) ≡ 20 + (width s * (length bs + 1) + (length (peaks_part ps) + length (joined (slots_of s bs))))
+  formed_size : length (formed s a ps bs) ≡ 20 + (width s * (length bs + 1) + (length (peaks_part ps) + length (joined (slots_of s bs))))
   unfolding formed
-  formed-size =
-      let f : length (formed s a ps bs) ≡ 20 + length after_front = front-size a (length ps) (peaks_start s bs) (length bs) (cond s 0 1) (data_start s ps bs) after_front in
+  formed_size =
+      let f : length (formed s a ps bs) ≡ 20 + length after_front = front_size a (length ps) (peaks_start s bs) (length bs) (cond s 0 1) (data_start s ps bs) after_front in
       let o : length (offsets_part s bs) ≡ width s * (length bs + 1) = offsets_size s (offsets_of s bs) ∙ ap (λ (n : ℕ). width s * n) (offsets_count s bs) in
       let p = length-append (offsets_part s bs) (peaks_part ps ++ joined (slots_of s bs)) in
       let q = length-append (peaks_part ps) (joined (slots_of s bs)) in
@@ -59,15 +59,15 @@ module _ (a : ℕ) (gs : List Glyph) where
       table_formed a (shared_peaks (peaks_seen gs)) (glyphs_bytes gs)
       ∙ ap (λ (t : Bool). formed t a (shared_peaks (peaks_seen gs)) (glyphs_bytes gs)) e
 
-  of-form : (s : Bool) (slots : ℕ) → is_short (glyphs_bytes gs) ≡ s → length (joined (slots_of s (glyphs_bytes gs))) ≡ slots → Formed a gs (cond s 0 1) (width s) slots
-  of-form s slots e l =
+  of_form : (s : Bool) (slots : ℕ) → is_short (glyphs_bytes gs) ≡ s → length (joined (slots_of s (glyphs_bytes gs))) ≡ slots → Formed a gs (cond s 0 1) (width s) slots
+  of_form s slots e l =
       let ps = shared_peaks (peaks_seen gs) in
       let bs = glyphs_bytes gs in
-      let z = ap length (table_is s e) ∙ formed-size s a ps bs in
+      let z = ap length (table_is s e) ∙ formed_size s a ps bs in
       let n : length bs ≡ length gs = length_glyphs_bytes gs in
       let w : width s * (length bs + 1) ≡ width s * (length gs + 1) = ap (λ (k : ℕ). width s * (k + 1)) n in
       record {
-        flags_word = ap (λ (t : List ℕ). word_at t 14) (table_is s e) ∙ formed-flags s a ps bs;
+        flags_word = ap (λ (t : List ℕ). word_at t 14) (table_is s e) ∙ formed_flags s a ps bs;
         size = omega (arith, z, w, l);
       }
 
@@ -90,7 +90,7 @@ peaks_sized a gs s =
 pub short_or_long : ShortOrLong
 short_or_long =
     record {
-      short_form = λ a gs l. of-form a gs true (even_total (glyphs_bytes gs)) (le-leb (even_total (glyphs_bytes gs) / 2) 65535 l) (short_slots (glyphs_bytes gs));
-      long_form = λ a gs l. of-form a gs false (total (map length (glyphs_bytes gs))) (lt-leb (even_total (glyphs_bytes gs) / 2) 65535 l) (long_slots (glyphs_bytes gs));
+      short_form = λ a gs l. of_form a gs true (even_total (glyphs_bytes gs)) (le-leb (even_total (glyphs_bytes gs) / 2) 65535 l) (short_slots (glyphs_bytes gs));
+      long_form = λ a gs l. of_form a gs false (total (map length (glyphs_bytes gs))) (lt-leb (even_total (glyphs_bytes gs) / 2) 65535 l) (long_slots (glyphs_bytes gs));
       peaks_size = λ a free calls. peaks_sized a (after (opened a free) calls).glyphs (reached a free calls);
     }

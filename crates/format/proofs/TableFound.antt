@@ -10,32 +10,32 @@ use Rattle.format.specs.Reader.{Checked, Entry, checked, offset_of, offset_size,
 use Rattle.format.specs.Found.{WellTold, LiesInTheSlot}
 use Rattle.format.proofs.Lists.{all_listed, length_listed, get_or_listed}
 use Rattle.format.proofs.Conditions.{Off, none_applies}
-use Rattle.format.proofs.Outcomes.{Outcome, of_found, of_fault, outcome-unless, outcome_weaker}
-use Rattle.format.proofs.FaultsTold.{short-told, table-told, First, first_told, first_all}
-use Rattle.format.proofs.SlotFound.{Asked-and-found, slot-found-or-told}
+use Rattle.format.proofs.Outcomes.{Outcome, of_found, of_fault, outcome_unless, outcome_weaker}
+use Rattle.format.proofs.FaultsTold.{short_told, table_told, First, first_told, first_all}
+use Rattle.format.proofs.SlotFound.{AskedAndFound, slot_found_or_told}
 
 module _ (t : List ℕ) (g : ℕ) where
   -- an offset stands inside where all of them do
-  offset-inside : (b : Bool) (n i : ℕ) → 20 + cond b 4 2 * (n + 1) ≤ length t → i < n + 1 → 20 + cond b 4 2 * i ≤ length t
-  offset-inside true n i h l = omega arith
-  offset-inside false n i h l = omega arith
+  offset_inside : (b : Bool) (n i : ℕ) → 20 + cond b 4 2 * (n + 1) ≤ length t → i < n + 1 → 20 + cond b 4 2 * i ≤ length t
+  offset_inside true n i h l = omega arith
+  offset_inside false n i h l = omega arith
 
-  conditions-told : First (WellTold t g) (table_conditions t)
-  conditions-told =
+  conditions_told : First (WellTold t g) (table_conditions t)
+  conditions_told =
       let c = checked t in (
-        short-told t g,
+        short_told t g,
         λ long. let head = ltb-false (length t) 20 long in (
-          table-told t g 17 0 (omega arith) (omega arith) (omega arith),
+          table_told t g 17 0 (omega arith) (omega arith) (omega arith),
           λ version. (
-            table-told t g 18 12 (omega arith) (omega arith) (omega arith),
+            table_told t g 18 12 (omega arith) (omega arith) (omega arith),
             λ offsets. let room = ltb-false (length t) (20 + offset_size c * (c.glyph_count + 1)) offsets in (
-              table-told t g 18 8 (omega arith) (omega arith) (omega arith),
+              table_told t g 18 8 (omega arith) (omega arith) (omega arith),
               λ peaks. (
-                table-told t g 18 16 (omega arith) (omega arith) (omega arith),
+                table_told t g 18 16 (omega arith) (omega arith) (omega arith),
                 λ parts.
                     first_all (WellTold t g) (listed 0 (c.glyph_count + 1) (offset_condition c))
                     (all_listed (λ (k : Condition). WellTold t g k.answer) 0 (c.glyph_count + 1) (offset_condition c)
-                    (λ i l. table-told t g 19 (20 + offset_size c * i) (omega arith) (omega arith) (offset-inside c.is_long c.glyph_count i room (omega arith)))),
+                    (λ i l. table_told t g 19 (20 + offset_size c * i) (omega arith) (omega arith) (offset_inside c.is_long c.glyph_count i room (omega arith)))),
               ),
             ),
           ),
@@ -56,18 +56,18 @@ glyph_found : (bs : List ℕ) (g p : ℕ) → Outcome (LiesInTheSlot bs g p) (We
 unfolding read_glyph
 glyph_found bs g p =
     let c = checked bs in
-    outcome-unless (LiesInTheSlot bs g p) (WellTold bs g) (first_of (table_conditions bs)) (read_slot c g p)
-    (first_told (WellTold bs g) (table_conditions bs) (conditions-told bs g))
+    outcome_unless (LiesInTheSlot bs g p) (WellTold bs g) (first_of (table_conditions bs)) (read_slot c g p)
+    (first_told (WellTold bs g) (table_conditions bs) (conditions_told bs g))
     (λ a.
     let off = none_applies (table_conditions bs) a in
     let room = ltb-false (length bs) (c.peaks_at + 2 * (c.axes * c.peak_count)) off.1.1.1.0 in
-    outcome_weaker (Asked-and-found c g p room) (LiesInTheSlot bs g p) (WellTold bs g) (read_slot c g p)
-    (slot-found-or-told c g p room (slot_begins c g off.1.1.1.1.1))
+    outcome_weaker (AskedAndFound c g p room) (LiesInTheSlot bs g p) (WellTold bs g) (read_slot c g p)
+    (slot_found_or_told c g p room (slot_begins c g off.1.1.1.1.1))
     (λ es h. record {
       few_points = h.few_points;
       glyph_is_there = h.glyph_is_there;
-      few_entries = h.slot-found.few;
-      entries_well_formed = h.slot-found.well-formed;
+      few_entries = h.slot_found.few;
+      entries_well_formed = h.slot_found.well_formed;
     }))
 
 pub reading_lies_in_the_slot : (bs : List ℕ) (g p : ℕ) (es : List Entry) → read_glyph bs g p ≡ found es → LiesInTheSlot bs g p es

@@ -10,7 +10,7 @@ use Rattle.format.specs.Reader.{Checked, checked, word_at, long_at, value_or, re
 use Rattle.format.proofs.Words.{words_size, words_back, bits16_fits, signed16_back}
 use Rattle.format.proofs.Offsets.{Held, offsets_back, length_offsets, slot_back}
 use Rattle.format.proofs.Padded.{fits, width, offsets_size, peaks_size, slot_of}
-use Rattle.format.proofs.TableFront.{front-axes, front-peaks, front-peaks-at, front-glyphs, front-flags, front-data-at, front-drop, front-size, slots_of, offsets_of, offsets_part, peaks_part, peaks_start, data_start, formed}
+use Rattle.format.proofs.TableFront.{front_axes, front_peaks, front_peaks_at, front_glyphs, front_flags, front_data_at, front_drop, front_size, slots_of, offsets_of, offsets_part, peaks_part, peaks_start, data_start, formed}
 
 -- what a table's fields can hold
 pub record Fitting (a : ℕ) (ps : List (List ℤ)) (bs : List (List ℕ)) : Type 0 where
@@ -60,36 +60,36 @@ parts_small s a ps bs h = by s (offsets_size s (offsets_of s bs)) (offsets_count
     by false e f = omega (arith, peaks_size a ps h.peaks_of_axes, mul-le-mul h.few_axes h.few_peaks)
 
 module _ (s : Bool) (a : ℕ) (ps : List (List ℤ)) (bs : List (List ℕ)) where
-  pub formed-size : length (formed s a ps bs) ≡ 20 + (length (offsets_part s bs) + (length (peaks_part ps) + length (joined (slots_of s bs))))
+  pub formed_size : length (formed s a ps bs) ≡ 20 + (length (offsets_part s bs) + (length (peaks_part ps) + length (joined (slots_of s bs))))
   unfolding formed
-  formed-size =
+  formed_size =
       let ds = joined (slots_of s bs) in
-      front-size a (length ps) (peaks_start s bs) (length bs) (cond s 0 1) (data_start s ps bs) (offsets_part s bs ++ (peaks_part ps ++ ds))
+      front_size a (length ps) (peaks_start s bs) (length bs) (cond s 0 1) (data_start s ps bs) (offsets_part s bs ++ (peaks_part ps ++ ds))
       ∙ omega (arith, length-append (offsets_part s bs) (peaks_part ps ++ ds), length-append (peaks_part ps) ds)
 
-  pub formed-peaks : (k : ℕ) → drop (peaks_start s bs + k) (formed s a ps bs) ≡ drop k (peaks_part ps ++ joined (slots_of s bs))
+  pub formed_peaks : (k : ℕ) → drop (peaks_start s bs + k) (formed s a ps bs) ≡ drop k (peaks_part ps ++ joined (slots_of s bs))
   unfolding formed
-  formed-peaks k =
+  formed_peaks k =
       let ds = joined (slots_of s bs) in
       let e : peaks_start s bs + k ≡ 20 + (length (offsets_part s bs) + k) = omega arith in
       ap (λ (j : ℕ). drop j (formed s a ps bs)) e
-      ∙ front-drop a (length ps) (peaks_start s bs) (length bs) (cond s 0 1) (data_start s ps bs) (offsets_part s bs ++ (peaks_part ps ++ ds)) (length (offsets_part s bs) + k)
+      ∙ front_drop a (length ps) (peaks_start s bs) (length bs) (cond s 0 1) (data_start s ps bs) (offsets_part s bs ++ (peaks_part ps ++ ds)) (length (offsets_part s bs) + k)
       ∙ drop-append-add (offsets_part s bs) (peaks_part ps ++ ds) k
 
-  pub formed-data : (k : ℕ) → drop (data_start s ps bs + k) (formed s a ps bs) ≡ drop k (joined (slots_of s bs))
-  formed-data k =
+  pub formed_data : (k : ℕ) → drop (data_start s ps bs + k) (formed s a ps bs) ≡ drop k (joined (slots_of s bs))
+  formed_data k =
       let e : data_start s ps bs + k ≡ peaks_start s bs + (length (peaks_part ps) + k) = omega arith in
       ap (λ (j : ℕ). drop j (formed s a ps bs)) e
-      ∙ formed-peaks (length (peaks_part ps) + k)
+      ∙ formed_peaks (length (peaks_part ps) + k)
       ∙ drop-append-add (peaks_part ps) (joined (slots_of s bs)) k
 
-  pub formed-version : long_at (formed s a ps bs) 0 ≡ 65536
+  pub formed_version : long_at (formed s a ps bs) 0 ≡ 65536
   unfolding formed
-  formed-version = refl
+  formed_version = refl
 
-  pub formed-checked : Fitting a ps bs → is_short bs ≡ s → checked (formed s a ps bs) ≡ checked_of s a ps bs
+  pub formed_checked : Fitting a ps bs → is_short bs ≡ s → checked (formed s a ps bs) ≡ checked_of s a ps bs
   unfolding formed
-  formed-checked h e =
+  formed_checked h e =
       let r = offsets_part s bs ++ (peaks_part ps ++ joined (slots_of s bs)) in
       let big : data_start s ps bs < 4294967296 = omega (arith, parts_small s a ps bs h) in
       let n = length ps in
@@ -97,12 +97,12 @@ module _ (s : Bool) (a : ℕ) (ps : List (List ℤ)) (bs : List (List ℕ)) wher
       let g = length bs in
       let f : ℕ = cond s 0 1 in
       let d = data_start s ps bs in
-      let axes = front-axes a n p g f d r (omega (arith, h.few_axes)) in
-      let peaks = front-peaks a n p g f d r (omega (arith, h.few_peaks)) in
-      let peaks_at = front-peaks-at a n p g f d r (omega arith) in
-      let glyphs = front-glyphs a n p g f d r (omega (arith, h.few_glyphs)) in
-      let flags = front-flags a n p g f d r (flag_small s) in
-      let data_at = front-data-at a n p g f d r big in
+      let axes = front_axes a n p g f d r (omega (arith, h.few_axes)) in
+      let peaks = front_peaks a n p g f d r (omega (arith, h.few_peaks)) in
+      let peaks_at = front_peaks_at a n p g f d r (omega arith) in
+      let glyphs = front_glyphs a n p g f d r (omega (arith, h.few_glyphs)) in
+      let flags = front_flags a n p g f d r (flag_small s) in
+      let data_at = front_data_at a n p g f d r big in
       let form : eqb (word_at (formed s a ps bs) 14 % 2) 1 ≡ not s = ap (λ (w : ℕ). eqb (w % 2) 1) flags ∙ flag_read s in
       let offs = offsets_read s bs (peaks_part ps ++ joined (slots_of s bs)) (fits s bs e h.small_data) (eqb (word_at (formed s a ps bs) 14 % 2) 1) (word_at (formed s a ps bs) 12) form glyphs in
       λ i. record {
@@ -117,8 +117,8 @@ module _ (s : Bool) (a : ℕ) (ps : List (List ℤ)) (bs : List (List ℕ)) wher
       }
 
   -- the slot of a glyph
-  pub formed-slot : (g : ℕ) → g < length bs → slot_bytes (checked_of s a ps bs) g ≡ padded s (get_or bs g [])
-  formed-slot g h =
+  pub formed_slot : (g : ℕ) → g < length bs → slot_bytes (checked_of s a ps bs) g ≡ padded s (get_or bs g [])
+  formed_slot g h =
       let os = offsets_of s bs in
       let o = get_or os g 0 in
       let l : g < length (slots_of s bs) = omega (arith, length-map bs (padded s)) in
@@ -126,7 +126,7 @@ module _ (s : Bool) (a : ℕ) (ps : List (List ℤ)) (bs : List (List ℕ)) wher
       let z : o - 0 ≡ o = omega arith in
       let b : take (get_or os (suc g) 0 - o) (drop (o - 0) (joined (slots_of s bs))) ≡ get_or (slots_of s bs) g [] = slot_back 0 (slots_of s bs) g l in
       ap (λ (j : ℕ). take (get_or os j 0 - o) (drop (data_start s ps bs + o) (formed s a ps bs))) k
-      ∙ ap (λ (xs : List ℕ). take (get_or os (suc g) 0 - o) xs) (formed-data o)
+      ∙ ap (λ (xs : List ℕ). take (get_or os (suc g) 0 - o) xs) (formed_data o)
       ∙ ap (λ (j : ℕ). take (get_or os (suc g) 0 - o) (drop j (joined (slots_of s bs)))) (sym z)
       ∙ b
       ∙ slot_of s bs g
@@ -150,5 +150,5 @@ peak_read a (p ∷ ps) r (suc i) e h l =
 
 pub formed_peak : (s : Bool) (a : ℕ) (ps : List (List ℤ)) (bs : List (List ℕ)) → Fitting a ps bs → (i : ℕ) → i < length ps → shared_peak (checked_of s a ps bs) i ≡ get_or ps i []
 formed_peak s a ps bs h i l =
-    ap (λ (xs : List ℕ). value_or [] (λ r. r.0) (read_words signed16 a xs)) (formed-peaks s a ps bs (2 * (a * i)))
+    ap (λ (xs : List ℕ). value_or [] (λ r. r.0) (read_words signed16 a xs)) (formed_peaks s a ps bs (2 * (a * i)))
     ∙ peak_read a ps (joined (slots_of s bs)) i h.peaks_of_axes h.peaks_short l

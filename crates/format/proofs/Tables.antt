@@ -11,7 +11,7 @@ use Rattle.format.specs.Streams.{fault_if}
 use Rattle.format.specs.Reader.{Checked, checked, long_at, unless, offset_of, offset_size, falls, offset_condition, in_table, table_conditions, shared_peak, slot_bytes, read_slot, read_bytes_of_slot, read_glyph}
 use Rattle.format.proofs.Padded.{pad, padded_pad, padded_total, width, offsets_size, peaks_size, offsets_rise, offsets_most}
 use Rattle.format.proofs.TableFront.{slots_of, offsets_of, offsets_part, peaks_part, peaks_start, data_start, formed, table_formed}
-use Rattle.format.proofs.TableParts.{Fitting, checked_of, offsets_count, parts_small, formed-size, formed-version, formed-checked, formed-slot, formed_peak}
+use Rattle.format.proofs.TableParts.{Fitting, checked_of, offsets_count, parts_small, formed_size, formed_version, formed_checked, formed_slot, formed_peak}
 use Rattle.format.proofs.Conditions.{all_pass, listed_pass}
 
 -- No condition applies
@@ -32,10 +32,10 @@ module _ (s : Bool) (a : ℕ) (ps : List (List ℤ)) (bs : List (List ℕ)) wher
   rises_on (suc i) h = le-ltb _ _ (offsets_rise 0 (slots_of s bs) i (omega (arith, length-map bs (padded s))))
 
   inside : (i : ℕ) → i < length bs + 1 → ltb (length (formed s a ps bs)) (data_start s ps bs + get_or (offsets_of s bs) i 0) ≡ false
-  inside i h = le-ltb _ _ (omega (arith, formed-size s a ps bs, offsets_most 0 (slots_of s bs) i (omega (arith, length-map bs (padded s)))))
+  inside i h = le-ltb _ _ (omega (arith, formed_size s a ps bs, offsets_most 0 (slots_of s bs) i (omega (arith, length-map bs (padded s)))))
 
-  offsets-room : 20 + offset_size (checked_of s a ps bs) * (length bs + 1) ≤ length (formed s a ps bs)
-  offsets-room = by s (formed-size s a ps bs) (offsets_size s (offsets_of s bs)) (offsets_count s bs)
+  offsets_room : 20 + offset_size (checked_of s a ps bs) * (length bs + 1) ≤ length (formed s a ps bs)
+  offsets_room = by s (formed_size s a ps bs) (offsets_size s (offsets_of s bs)) (offsets_count s bs)
     where
       by : (s : Bool) →
           length (formed s a ps bs) ≡ 20 + (length (offsets_part s bs) + (length (peaks_part ps) + length (joined (slots_of s bs)))) →
@@ -44,16 +44,16 @@ module _ (s : Bool) (a : ℕ) (ps : List (List ℤ)) (bs : List (List ℕ)) wher
       by true e f g = omega arith
       by false e f g = omega arith
 
-  formed-none : Fitting a ps bs → first_of (conditions_over (formed s a ps bs) (checked_of s a ps bs)) ≡ none
-  formed-none h =
+  formed_none : Fitting a ps bs → first_of (conditions_over (formed s a ps bs) (checked_of s a ps bs)) ≡ none
+  formed_none h =
       let t = formed s a ps bs in
-      let size = formed-size s a ps bs in
+      let size = formed_size s a ps bs in
       all_pass (conditions_over t (checked_of s a ps bs)) (
         le-ltb (length t) 20 (omega arith),
         (
-          ap (λ (v : ℕ). not (eqb v 65536)) (formed-version s a ps bs),
+          ap (λ (v : ℕ). not (eqb v 65536)) (formed_version s a ps bs),
           (
-            le-ltb (length t) _ offsets-room,
+            le-ltb (length t) _ offsets_room,
             (
               le-ltb (length t) (peaks_start s bs + 2 * (a * length ps)) (omega (arith, peaks_size a ps h.peaks_of_axes)),
               (
@@ -76,67 +76,67 @@ checked_slot c g p x h l e =
 
 module _ (a : ℕ) (ps : List (List ℤ)) (bs : List (List ℕ)) where
   -- what the check takes from the table, all at once
-  pub table-checked : Fitting a ps bs → checked (table_of a ps bs) ≡ checked_of (is_short bs) a ps bs
-  table-checked h = ap checked (table_formed a ps bs) ∙ formed-checked (is_short bs) a ps bs h refl
+  pub table_checked : Fitting a ps bs → checked (table_of a ps bs) ≡ checked_of (is_short bs) a ps bs
+  table_checked h = ap checked (table_formed a ps bs) ∙ formed_checked (is_short bs) a ps bs h refl
 
   pub table_none : Fitting a ps bs → first_of (table_conditions (table_of a ps bs)) ≡ none
   table_none h =
       ap (λ (t : List ℕ). first_of (table_conditions t)) (table_formed a ps bs)
-      ∙ ap (λ (c : Checked). first_of (conditions_over (formed (is_short bs) a ps bs) c)) (formed-checked (is_short bs) a ps bs h refl)
-      ∙ formed-none (is_short bs) a ps bs h
+      ∙ ap (λ (c : Checked). first_of (conditions_over (formed (is_short bs) a ps bs) c)) (formed_checked (is_short bs) a ps bs h refl)
+      ∙ formed_none (is_short bs) a ps bs h
 
-  pub record Table-back : Type 0 where
+  pub record TableBack : Type 0 where
     pub no_fault : first_of (table_conditions (table_of a ps bs)) ≡ none
-    pub axes-back : (checked (table_of a ps bs)).axes ≡ a
-    pub peak-count-back : (checked (table_of a ps bs)).peak_count ≡ length ps
-    pub glyph-count-back : (checked (table_of a ps bs)).glyph_count ≡ length bs
-    pub peak-back : (i : ℕ) → i < length ps → shared_peak (checked (table_of a ps bs)) i ≡ get_or ps i []
+    pub axes_back : (checked (table_of a ps bs)).axes ≡ a
+    pub peak_count_back : (checked (table_of a ps bs)).peak_count ≡ length ps
+    pub glyph_count_back : (checked (table_of a ps bs)).glyph_count ≡ length bs
+    pub peak_back : (i : ℕ) → i < length ps → shared_peak (checked (table_of a ps bs)) i ≡ get_or ps i []
     pub slot_back : (g : ℕ) → g < length bs → slot_bytes (checked (table_of a ps bs)) g ≡ padded (is_short bs) (get_or bs g [])
-    pub glyph-back : (g p : ℕ) → g < length bs → p ≤ 32767 →
+    pub glyph_back : (g p : ℕ) → g < length bs → p ≤ 32767 →
         let c = checked (table_of a ps bs) in
         read_glyph (table_of a ps bs) g p ≡ read_bytes_of_slot c g p (padded (is_short bs) (get_or bs g [])) (c.data_at + offset_of c g)
 
-  pub glyph-read : Fitting a ps bs → (g p : ℕ) → g < length bs → p ≤ 32767 →
+  pub glyph_read : Fitting a ps bs → (g p : ℕ) → g < length bs → p ≤ 32767 →
       let c = checked (table_of a ps bs) in
       read_glyph (table_of a ps bs) g p ≡ read_bytes_of_slot c g p (padded (is_short bs) (get_or bs g [])) (c.data_at + offset_of c g)
   unfolding read_glyph
-  glyph-read h g p l m =
+  glyph_read h g p l m =
       let t = table_of a ps bs in
-      let e = table-checked h in
+      let e = table_checked h in
       let n : g < (checked t).glyph_count = subst (λ (k : ℕ). g < k) (sym (ap (λ (c : Checked). c.glyph_count) e)) l in
       ap (λ (o : Option Declined). unless o (read_slot (checked t) g p)) (table_none h)
       ∙ checked_slot (checked t) g p (padded (is_short bs) (get_or bs g [])) n m
-      (ap (λ (c : Checked). slot_bytes c g) e ∙ formed-slot (is_short bs) a ps bs g l)
+      (ap (λ (c : Checked). slot_bytes c g) e ∙ formed_slot (is_short bs) a ps bs g l)
 
-  pub table-back : Fitting a ps bs → Table-back
-  table-back h =
-      let e = table-checked h in
+  pub table_back : Fitting a ps bs → TableBack
+  table_back h =
+      let e = table_checked h in
       record {
         no_fault = table_none h;
-        axes-back = ap (λ (c : Checked). c.axes) e;
-        peak-count-back = ap (λ (c : Checked). c.peak_count) e;
-        glyph-count-back = ap (λ (c : Checked). c.glyph_count) e;
-        peak-back = λ i l. ap (λ (c : Checked). shared_peak c i) e ∙ formed_peak (is_short bs) a ps bs h i l;
-        slot_back = λ g l. ap (λ (c : Checked). slot_bytes c g) e ∙ formed-slot (is_short bs) a ps bs g l;
-        glyph-back = glyph-read h;
+        axes_back = ap (λ (c : Checked). c.axes) e;
+        peak_count_back = ap (λ (c : Checked). c.peak_count) e;
+        glyph_count_back = ap (λ (c : Checked). c.glyph_count) e;
+        peak_back = λ i l. ap (λ (c : Checked). shared_peak c i) e ∙ formed_peak (is_short bs) a ps bs h i l;
+        slot_back = λ g l. ap (λ (c : Checked). slot_bytes c g) e ∙ formed_slot (is_short bs) a ps bs g l;
+        glyph_back = glyph_read h;
       }
 
   -- the same over what the check takes, with the place written out and the pad apart
-  pub glyph-read-of : Fitting a ps bs → (g p : ℕ) → g < length bs → p ≤ 32767 →
+  pub glyph_read_of : Fitting a ps bs → (g p : ℕ) → g < length bs → p ≤ 32767 →
       let s = is_short bs in
       let b = get_or bs g [] in
       read_glyph (table_of a ps bs) g p ≡ read_bytes_of_slot (checked_of s a ps bs) g p (b ++ pad s b) (data_start s ps bs + get_or (offsets_of s bs) g 0)
-  glyph-read-of h g p l m =
+  glyph_read_of h g p l m =
       let s = is_short bs in
       let b = get_or bs g [] in
-      glyph-read h g p l m
-      ∙ ap (λ (c : Checked). read_bytes_of_slot c g p (padded s b) (c.data_at + offset_of c g)) (table-checked h)
+      glyph_read h g p l m
+      ∙ ap (λ (c : Checked). read_bytes_of_slot c g p (padded s b) (c.data_at + offset_of c g)) (table_checked h)
       ∙ ap (λ (x : List ℕ). read_bytes_of_slot (checked_of s a ps bs) g p x (data_start s ps bs + get_or (offsets_of s bs) g 0)) (padded_pad s b)
 
   -- its length fits four bytes
-  pub table-small : Fitting a ps bs → length (table_of a ps bs) < 4294967296
-  table-small h =
+  pub table_small : Fitting a ps bs → length (table_of a ps bs) < 4294967296
+  table_small h =
       let s = is_short bs in
       let small : data_start s ps bs < 4000000000 = parts_small s a ps bs h in
       subst (λ (t : List ℕ). length t < 4294967296) (sym (table_formed a ps bs))
-      (omega (arith, formed-size s a ps bs, padded_total s bs, h.small_data, small))
+      (omega (arith, formed_size s a ps bs, padded_total s bs, h.small_data, small))

@@ -221,11 +221,11 @@ laid gs (compile cells sink ∷ cs) = laid gs cs
 
 -- the values handed in are signed 16-bit ones
 abbrev pub ShortGiven : Given → Type 0
-ShortGiven g = Short g.peak × Short-bounds g.bounds
+ShortGiven g = Short g.peak × ShortBounds g.bounds
   where
-    Short-bounds : Option (ℤ × ℤ) → Type 0
-    Short-bounds none = Unit {0}
-    Short-bounds (some b) = Short b.0 × Short b.1
+    ShortBounds : Option (ℤ × ℤ) → Type 0
+    ShortBounds none = Unit {0}
+    ShortBounds (some b) = Short b.0 × Short b.1
 
 abbrev pub ShortTent : Tent → Type 0
 ShortTent t = Short t.peak × Short t.start × Short t.end

@@ -4,7 +4,7 @@ use Rattle.std.proofs.Math.Option.{Option, none, some}
 use Rattle.std.specs.List.{AllByRecursion as All}
 use Rattle.format.specs.Account.{Declined, layer_of}
 use Rattle.format.specs.Packed.{Points}
-use Rattle.format.specs.Streams.{Rest, rises, read-deltas, read-points, found, fault}
+use Rattle.format.specs.Streams.{Rest, rises, read_deltas, read_points, found, fault}
 use Rattle.format.specs.Reader.{Entry, points_of, word_at, read_glyph}
 use Rattle.format.specs.Laws.{InRange}
 
@@ -27,15 +27,15 @@ pub record FailsInside (decline : ℕ → ℕ → Declined) (number : ℕ) (bs :
 abbrev pub DeltasStayInside : Type 0
 DeltasStayInside =
     (d : ℕ → ℕ → Declined) (k : ℕ) (bs : List ℕ) (at : ℕ) →
-    ((s : Rest (List ℤ)) → read-deltas d k bs at ≡ found s → Stays bs at s × (length s.value ≡ k))
-    × ((x : Declined) → read-deltas d k bs at ≡ fault x → FailsInside d 23 bs at x)
+    ((s : Rest (List ℤ)) → read_deltas d k bs at ≡ found s → Stays bs at s × (length s.value ≡ k))
+    × ((x : Declined) → read_deltas d k bs at ≡ fault x → FailsInside d 23 bs at x)
 
 -- whatever the bytes, points are in range, and reading them stays inside
 abbrev pub PointsStayInside : Type 0
 PointsStayInside =
     (d : ℕ → ℕ → Declined) (p : ℕ) (bs : List ℕ) (at : ℕ) →
-    ((s : Rest Points) → read-points d p bs at ≡ found s → Stays bs at s × InRange p s.value)
-    × ((x : Declined) → read-points d p bs at ≡ fault x → FailsInside d 22 bs at x)
+    ((s : Rest Points) → read_points d p bs at ≡ found s → Stays bs at s × InRange p s.value)
+    × ((x : Declined) → read_points d p bs at ≡ fault x → FailsInside d 22 bs at x)
 
 -- Glyphs
 

@@ -5,7 +5,7 @@ use Rattle.format.specs.Bytes.{pair, signed16}
 use Rattle.format.specs.Account.{Declined, declined, Condition, iff, first_of, implied_start, implied_end}
 use Rattle.format.specs.Packed.{Points, every, only}
 use Rattle.format.specs.Glyphs.{listed}
-use Rattle.format.specs.Streams.{Read, and_then, fault_if, Rest, rest, read_words, read_longs, read-points, read-deltas, found, fault}
+use Rattle.format.specs.Streams.{Read, and_then, fault_if, Rest, rest, read_words, read_longs, read_points, read_deltas, found, fault}
 
 -- Headers: 21
 
@@ -56,19 +56,19 @@ module _ (g : ℕ) where
   abbrev pub at_slot : ℕ → ℕ → Declined
   at_slot n at = declined n (some g) none (some at)
 
-  abbrev pub header-then : ℕ → ℕ → Option (Rest Header) → (List ℕ → ℕ → Read (Rest (List Header))) → Read (Rest (List Header))
-  header-then i at none more = fault (at_entry i 21 at)
-  header-then i at (some h) more = and_then (more h.left h.place) (λ r. found (rest (h.value ∷ r.value) r.left r.place))
+  abbrev pub header_then : ℕ → ℕ → Option (Rest Header) → (List ℕ → ℕ → Read (Rest (List Header))) → Read (Rest (List Header))
+  header_then i at none more = fault (at_entry i 21 at)
+  header_then i at (some h) more = and_then (more h.left h.place) (λ r. found (rest (h.value ∷ r.value) r.left r.place))
 
   -- n headers, the first of them that of entry i
-  abbrev pub read-headers : ℕ → ℕ → ℕ → List ℕ → ℕ → Read (Rest (List Header))
-  read-headers a i zero bs at = found (rest [] bs at)
-  read-headers a i (suc n) bs at = header-then i at (read_header a bs at) (λ b p. read-headers a (suc i) n b p)
+  abbrev pub read_headers : ℕ → ℕ → ℕ → List ℕ → ℕ → Read (Rest (List Header))
+  read_headers a i zero bs at = found (rest [] bs at)
+  read_headers a i (suc n) bs at = header_then i at (read_header a bs at) (λ b p. read_headers a (suc i) n b p)
 
   -- no such shared peak, of so many
-  abbrev pub peak-conditions : ℕ → ℕ → List Header → List Condition
-  peak-conditions count i [] = []
-  peak-conditions count i (h ∷ hs) = iff (not (is_embedded h.index) && nat_le count (peak_index h.index)) (at_entry i 21 h.at) ∷ peak-conditions count (suc i) hs
+  abbrev pub peak_conditions : ℕ → ℕ → List Header → List Condition
+  peak_conditions count i [] = []
+  peak_conditions count i (h ∷ hs) = iff (not (is_embedded h.index) && nat_le count (peak_index h.index)) (at_entry i 21 h.at) ∷ peak_conditions count (suc i) hs
 
 -- Entries
 
@@ -138,10 +138,10 @@ nothing_left decline at x (b ∷ bs) = fault (decline 24 at)
 -- one entry from its data: points, x, y and 24
 abbrev pub read_entry : Checked → (ℕ → ℕ → Declined) → ℕ → Points → Header → List ℕ → ℕ → Read Entry
 read_entry c decline p shared h bs at =
-    and_then (cond (is_private h.index) (read-points decline p bs at) (found (rest shared bs at))) λ q.
+    and_then (cond (is_private h.index) (read_points decline p bs at) (found (rest shared bs at))) λ q.
     let k = length (points_of p q.value) in
-    and_then (read-deltas decline k q.left q.place) λ x.
-    and_then (read-deltas decline k x.left x.place) λ y.
+    and_then (read_deltas decline k q.left q.place) λ x.
+    and_then (read_deltas decline k x.left x.place) λ y.
     nothing_left decline y.place (entry_of c h p q.value x.value y.value) y.left
 
 -- the entries, each in its part of the data
@@ -167,14 +167,14 @@ unless none r = r
 unless (some d) r = fault d
 
 abbrev pub read_shared : ℕ → ℕ → Bool → List ℕ → ℕ → Read (Rest Points)
-read_shared g p true bs at = read-points (at_slot g) p bs at
+read_shared g p true bs at = read_points (at_slot g) p bs at
 read_shared g p false bs at = found (rest every bs at)
 
 -- a slot of four bytes or more: the count word, the data offset, and all its bytes
 abbrev pub read_store : Checked → ℕ → ℕ → ℕ → ℕ → List ℕ → ℕ → Read (List Entry)
 read_store c g p count offset slot at =
-    and_then (read-headers g c.axes 0 (count % 4096) (drop 4 slot) (at + 4)) λ hs.
-    unless (first_of (peak-conditions g c.peak_count 0 hs.value
+    and_then (read_headers g c.axes 0 (count % 4096) (drop 4 slot) (at + 4)) λ hs.
+    unless (first_of (peak_conditions g c.peak_count 0 hs.value
     ++ (iff (nat_lt (at + offset) hs.place || nat_lt (length slot) offset) (at_slot g 21 (at + 2)) ∷ []))) (
     and_then (read_shared g p (nat_le 32768 count) (drop offset slot) (at + offset)) λ s.
     and_then (read_entries c g p s.value 0 hs.value s.left s.place) λ r.

@@ -44,14 +44,14 @@ note e = (e.request, e.reply)
 -- all compiles have so many count cells, and a sink with this step
 module _ (step : Step) (cells : ℕ) where
   -- the call that a request makes, where the sink stands at s
-  abbrev pub call-of : Request → Standing → Call
-  call-of (Glyph n) s = glyph n
-  call-of (Variation ts ds) s = variation_call ts.now ds.now
-  call-of Compile s = compile cells (meaning_of step s)
+  abbrev pub call_of : Request → Standing → Call
+  call_of (Glyph n) s = glyph n
+  call_of (Variation ts ds) s = variation_call ts.now ds.now
+  call_of Compile s = compile cells (meaning_of step s)
 
   -- the calls that were made
-  abbrev pub calls-of : List Event → List Call
-  calls-of es = map (λ e. call-of e.request e.sink) es
+  abbrev pub calls_of : List Event → List Call
+  calls_of es = map (λ e. call_of e.request e.sink) es
 
   -- a glyph or a variation is answered by its conditions, and the account follows
   abbrev pub Added : Account → Call → Reply → Account → Type 0
@@ -74,19 +74,19 @@ module _ (step : Step) (cells : ℕ) where
   Run k s (e ∷ es) k' s' = (mid : Account) × (e.sink ≡ s) × Made k e mid × Run mid e.sink' es k' s'
 
   -- a run over these requests, with these replies
-  abbrev pub Run-noted : List Request → List Reply → Account → Standing → Account → Standing → Type 0
-  Run-noted qs rs k s k' s' = (es : List Event) × (map note es ≡ noted qs rs) × Run k s es k' s'
+  abbrev pub RunNoted : List Request → List Reply → Account → Standing → Account → Standing → Type 0
+  RunNoted qs rs k s k' s' = (es : List Event) × (map note es ≡ noted qs rs) × Run k s es k' s'
 
   -- every compile among the events keeps the promise for the calls before it
-  abbrev pub Every-compile-kept : ℕ → Cells → List Event → Type 0
-  Every-compile-kept a free es =
+  abbrev pub EveryCompileKept : ℕ → Cells → List Event → Type 0
+  EveryCompileKept a free es =
       (before : List Event) (e : Event) (later : List Event) → es ≡ before ++ (e ∷ later) →
       e.request ≡ Compile → (answer : Answer) → table_answer e.reply ≡ some answer →
-      Kept a free (calls-of before) (meaning_of step e.sink) answer (meaning_of step e.sink')
+      Kept a free (calls_of before) (meaning_of step e.sink) answer (meaning_of step e.sink')
 
   -- a set was opened with a axes and so many free cells, the requests were met, and the account is k, the sink at s'
   pub record Replayed (a : ℕ) (free : Cells) (requests : List Request) (replies : List Reply) (s : Standing) (k : Account) (s' : Standing) : Type 0 where
     pub events : List Event
-    pub of-requests : map note events ≡ noted requests replies
+    pub of_requests : map note events ≡ noted requests replies
     pub run : Run (opened a free) s events k s'
-    pub kept : Every-compile-kept a free events
+    pub kept : EveryCompileKept a free events

@@ -49,7 +49,7 @@ fn fit_sizes(parts: &SetParts<'_, '_>) -> Result<(), Refusal>
 
 // Hands the table of a counted set to the sink, or refuses and hands over nothing.
 fn write_counted<S: Sink>(parts: &SetParts<'_, '_>, sink: &mut S) -> Result<usize, Refusal>
-    ensures { Written step (parts_axes parts.now) (parts_glyphs parts.now) (stands sink.old) (stands sink.new) result }
+    ensures { Written S.step (parts_axes parts.now) (parts_glyphs parts.now) (S.stands sink.old) (S.stands sink.new) result }
 {
     match fit_sizes(parts) {
         Ok(()) => {}
@@ -79,7 +79,7 @@ fn write_set<'s, 'a, S: Sink>(
     requires full { true ≡ numbers_full (glyphs_of set.now) }
     requires counted { Counted (glyphs_of set.now) cells.now }
     requires peaks { peaks ≡ shared_count (peaks_seen (glyphs_of set.now)) }
-    ensures { Written step (account_of set.now).axes (glyphs_of set.now) (stands sink.old) (stands sink.new) result }
+    ensures { Written S.step (account_of set.now).axes (glyphs_of set.now) (S.stands sink.old) (S.stands sink.new) result }
 {
     let parts = SetParts::new(set, cells, peaks);
     write_counted(&parts, sink)
@@ -100,8 +100,8 @@ pub fn compile<S: Sink>(
     cells: &mut [CountCell],
     sink: &mut S,
 ) -> Result<usize, Refusal>
-    ensures compiled { Compiled (account_of set.now) (length cells.old) (meaning_of step (stands sink.old)) (compiled_of result) (meaning_of step (stands sink.new)) }
-    ensures sink { SinkLeft step (table_bytes (account_of set.now).axes (glyphs_of set.now)) (stands sink.old) (stands sink.new) result }
+    ensures compiled { Compiled (account_of set.now) (length cells.old) (meaning_of S.step (S.stands sink.old)) (compiled_of result) (meaning_of S.step (S.stands sink.new)) }
+    ensures sink { SinkLeft S.step (table_bytes (account_of set.now).axes (glyphs_of set.now)) (S.stands sink.old) (S.stands sink.new) result }
     ensures cells { cells.new ≡ cells_after (glyphs_of set.now) cells.old }
 {
     if !set.numbers_full() {

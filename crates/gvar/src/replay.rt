@@ -4,7 +4,7 @@ ghost use Rattle.std.proofs.Math.Option.{some};
 ghost use Rattle.sets.specs.OfSet.{account_of};
 ghost use Rattle.sets.specs.Refusals.{answer_of};
 ghost use Rattle.gvar.specs.Compiling.{compiled_of};
-ghost use Rattle.gvar.specs.Runs.{addition_answer, table_answer, Made, Run-noted, Replayed};
+ghost use Rattle.gvar.specs.Runs.{addition_answer, table_answer, Made, RunNoted, Replayed};
 
 use super::compile::compile;
 use super::requests::{Reply, Request};
@@ -41,7 +41,7 @@ fn make<S: Sink>(
     cells: &mut [CountCell],
     sink: &mut S,
 ) -> Reply
-    ensures made { Made step (length cells.old) (account_of set.old) (record { request = request.entry.now; reply = result; sink = stands sink.old; sink' = stands sink.new }) (account_of set.new) }
+    ensures made { Made S.step (length cells.old) (account_of set.old) (record { request = request.entry.now; reply = result; sink = S.stands sink.old; sink' = S.stands sink.new }) (account_of set.new) }
     ensures cells { length cells.new ≡ length cells.old }
 {
     match *request {
@@ -59,7 +59,7 @@ fn make_all<S: Sink>(
     cells: &mut [CountCell],
     sink: &mut S,
 )
-    ensures { Run-noted step (length cells.old) requests.now replies.new (account_of set.old) (stands sink.old) (account_of set.new) (stands sink.new) }
+    ensures { RunNoted S.step (length cells.old) requests.now replies.new (account_of set.old) (S.stands sink.old) (account_of set.new) (S.stands sink.new) }
 {
     let n = requests.len().min(replies.len());
     for i in 0..n {
@@ -79,7 +79,7 @@ pub fn replay<'a, S: Sink>(
     cells: &mut [CountCell],
     sink: &mut S,
 ) -> Set<'a>
-    ensures { Replayed step (length cells.old) axes.count (record { glyph = length glyphs.old; variation = length variations.old; axis = length values.old; delta = length deltas.old }) requests.now replies.new (stands sink.old) (account_of result) (stands sink.new) }
+    ensures { Replayed S.step (length cells.old) axes.count (record { glyph = length glyphs.old; variation = length variations.old; axis = length values.old; delta = length deltas.old }) requests.now replies.new (S.stands sink.old) (account_of result) (S.stands sink.new) }
 {
     let mut set = Set::open(axes, glyphs, variations, values, deltas);
     make_all(&mut set, requests, replies, cells, sink);

@@ -11,7 +11,7 @@ use Rattle.format.proofs.Ranks.{rank_below}
 use Rattle.counts.specs.Ranking.{rank_of}
 use Rattle.counts.specs.Rows.{peaks_sameness}
 use Rattle.counts.specs.Sameness.{Sameness}
-use Rattle.counts.proofs.Classes.{first-is-least, first-first, is_first_yes}
+use Rattle.counts.proofs.Classes.{first_is_least, first_first, is_first_yes}
 
 -- where a peak is first seen
 place_least : (ps : List (List ℤ)) (p : List ℤ) (n k : ℕ) → k < length ps → same_list same_int (get_or ps k []) p ≡ true → ((j : ℕ) → j < k → same_list same_int (get_or ps j []) p ≡ false) → place_of_peak ps p n ≡ n + k
@@ -29,14 +29,14 @@ module _ (ps : List (List ℤ)) (i : ℕ) (l : i < length ps) where
 
   place_is : place_of_peak ps (get_or ps i []) 0 ≡ class
   place_is =
-      let f = first-is-least sameness i l in
+      let f = first_is_least sameness i l in
       place_least ps (get_or ps i []) 0 class f.inside f.passes f.least ∙ omega arith
 
   inside : class < length ps
-  inside = (first-is-least sameness i l).inside
+  inside = (first_is_least sameness i l).inside
 
   head : is_first (length ps) (same_peak ps) class ≡ true
-  head = is_first_yes (length ps) (same_peak ps) class (first-first sameness i l)
+  head = is_first_yes (length ps) (same_peak ps) class (first_first sameness i l)
 
   -- how many classes occur more than once
   abbrev repeated : ℕ
@@ -65,8 +65,8 @@ module _ (ps : List (List ℤ)) (i : ℕ) (l : i < length ps) where
   index_is : shared_index ps (get_or ps i []) ≡ indexed class
   index_is = ap (λ (c : ℕ). indexed c) place_is
 
-  pub index-some : (r : ℕ) → r ≡ rank_of (length ps) (same_peak ps) (peak_score ps) i → r < shared_count ps → shared_index ps (get_or ps i []) ≡ some r
-  index-some r e h =
+  pub index_some : (r : ℕ) → r ≡ rank_of (length ps) (same_peak ps) (peak_score ps) i → r < shared_count ps → shared_index ps (get_or ps i []) ≡ some r
+  index_some r e h =
       let k : peak_rank ps class < repeated = omega arith in
       let few : peak_rank ps class < 4095 = omega arith in
       index_is
@@ -74,8 +74,8 @@ module _ (ps : List (List ℤ)) (i : ℕ) (l : i < length ps) where
       (and_from (ltb 1 (peak_score ps class)) (ltb (peak_rank ps class) 4095) (lt-ltb 1 (peak_score ps class) (repeats k)) (lt-ltb (peak_rank ps class) 4095 few))
       ∙ ap (λ (n : ℕ). some n) (sym e)
 
-  pub index-none : (r : ℕ) → r ≡ rank_of (length ps) (same_peak ps) (peak_score ps) i → shared_count ps ≤ r → shared_index ps (get_or ps i []) ≡ none
-  index-none r e h =
+  pub index_none : (r : ℕ) → r ≡ rank_of (length ps) (same_peak ps) (peak_score ps) i → shared_count ps ≤ r → shared_index ps (get_or ps i []) ≡ none
+  index_none r e h =
       index_is ∙ cond-false (ltb 1 (peak_score ps class) && ltb (peak_rank ps class) 4095) (some (peak_rank ps class)) none (by (cases_lt 1 (peak_score ps class)))
     where
       by : (1 < peak_score ps class) ⊎ (peak_score ps class ≤ 1) → (ltb 1 (peak_score ps class) && ltb (peak_rank ps class) 4095) ≡ false

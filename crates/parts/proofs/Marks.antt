@@ -67,8 +67,8 @@ module _ (vs : List Variation) (h : (j : ℕ) → j < length vs → get_or (mark
         let k = ltb-true 1 (set_count sets best) e in
         omega arith
 
-  pub shared-none : shared_part (shared_points (point_sets vs)) ≡ []
-  shared-none = by (ltb 1 (set_count sets best)) refl
+  pub shared_none : shared_part (shared_points (point_sets vs)) ≡ []
+  shared_none = by (ltb 1 (set_count sets best)) refl
     where
       by : (t : Bool) → ltb 1 (set_count sets best) ≡ t → shared_part (cond t (some (get_or sets best every)) none) ≡ []
       by true e = absurd (never e)

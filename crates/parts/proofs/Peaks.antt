@@ -11,7 +11,7 @@ use Rattle.format.proofs.Counts.{count_more}
 use Rattle.format.proofs.Lists.{get_or_listed}
 use Rattle.format.proofs.Padded.{peaks_size}
 use Rattle.format.proofs.Peaks.{length_shared_peaks, few_shared_peaks, shared_keep}
-use Rattle.format.proofs.Ranks.{ranked-below}
+use Rattle.format.proofs.Ranks.{ranked_below}
 use Rattle.counts.specs.declared.cells.CountCell.{CountCell}
 use Rattle.counts.specs.Cells.{order_at}
 use Rattle.counts.specs.Ranking.{classes}
@@ -19,7 +19,7 @@ use Rattle.counts.proofs.Classes.{count_le}
 use Rattle.sets.specs.declared.set.Set.{Set}
 use Rattle.sets.specs.OfSet.{stores, account_of, glyphs_of, sound_of}
 use Rattle.sets.specs.Rows.{rows}
-use Rattle.sets.proofs.Peaked.{peaks-are}
+use Rattle.sets.proofs.Peaked.{peaks_are}
 use Rattle.tables.specs.Parts.{peak_count, peaks_data}
 use Rattle.counting.specs.Counted.{OrdersHeld}
 
@@ -32,14 +32,14 @@ module _ (ps : List (List ℤ)) (cells : List CountCell) (held : OrdersHeld ps c
       (λ i k e. (and_parts (is_first (length ps) (same_peak ps) i) (ltb 1 (peak_score ps i)) e).0) in
       omega arith
 
-  pub shared-inside : r < length ps
-  shared-inside = omega (arith, ranks, count_le (length ps) (is_first (length ps) (same_peak ps)))
+  pub shared_inside : r < length ps
+  shared_inside = omega (arith, ranks, count_le (length ps) (is_first (length ps) (same_peak ps)))
 
-  pub order-inside : order_at cells r < length ps
-  order-inside = subst (λ (i : ℕ). i < length ps) (sym (held r ranks)) (ranked-below (length ps) (same_peak ps) (peak_score ps) r ranks)
+  pub order_inside : order_at cells r < length ps
+  order_inside = subst (λ (i : ℕ). i < length ps) (sym (held r ranks)) (ranked_below (length ps) (same_peak ps) (peak_score ps) r ranks)
 
-  pub order-peak : get_or ps (order_at cells r) [] ≡ get_or (shared_peaks ps) r []
-  order-peak =
+  pub order_peak : get_or ps (order_at cells r) [] ≡ get_or (shared_peaks ps) r []
+  order_peak =
       ap (λ (i : ℕ). get_or ps i []) (held r ranks)
       ∙ sym (get_or_listed 0 (shared_count ps) (λ k. get_or ps (ranked (length ps) (same_peak ps) (peak_score ps) k) []) r r [] (omega arith) l)
 
@@ -54,7 +54,7 @@ rows_long a xs (suc n) h =
 
 pub each_axis : (s : Set) → All (λ p. length p ≡ (account_of s).axes) (peaks_seen (glyphs_of s))
 each_axis s =
-    subst (λ (ps : List (List ℤ)). All (λ p. length p ≡ (account_of s).axes) ps) (peaks-are (stores s) (sound_of s))
+    subst (λ (ps : List (List ℤ)). All (λ p. length p ≡ (account_of s).axes) ps) (peaks_are (stores s) (sound_of s))
     (rows_long s.axes.count s.values.now s.added s.within.2)
 
 pub count_is : (gs : List Glyph) → shared_count (peaks_seen gs) ≡ peak_count gs

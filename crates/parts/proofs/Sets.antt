@@ -9,7 +9,7 @@ use Rattle.sets.specs.OfSet.{account_of, glyphs_of}
 use Rattle.sets.specs.Views.{all_variations, no_variation, Shows}
 use Rattle.parts.specs.declared.set_parts.SetParts.{SetParts}
 use Rattle.parts.specs.OfParts.{parts_glyphs}
-use Rattle.parts.proofs.Peaks.{shared-inside, order-inside, order-peak, peaks_left, left_more, left_none}
+use Rattle.parts.proofs.Peaks.{shared_inside, order_inside, order_peak, peaks_left, left_more, left_none}
 use Rattle.parts.proofs.Spans.{peaks_long, peak_of}
 
 module _ (p : SetParts) where
@@ -24,25 +24,25 @@ module _ (p : SetParts) where
     shared : r < shared_count (peaks_seen gs)
     shared = omega (arith, p.counted)
 
-    pub cell-inside : r < length p.cells.now
-    cell-inside = omega (arith, shared-inside (peaks_seen gs) p.cells.now p.ordered r shared, p.long)
+    pub cell_inside : r < length p.cells.now
+    cell_inside = omega (arith, shared_inside (peaks_seen gs) p.cells.now p.ordered r shared, p.long)
 
     module _ (i : ℕ) (e : i ≡ order_at p.cells.now r) where
-      pub order-has : i < length (all_variations gs)
-      order-has = omega (arith, order-inside (peaks_seen gs) p.cells.now p.ordered r shared, peaks_long gs)
+      pub order_has : i < length (all_variations gs)
+      order_has = omega (arith, order_inside (peaks_seen gs) p.cells.now p.ordered r shared, peaks_long gs)
 
-      pub shared-shown : (v : GlyphDeltas) → Shows (account_of p.set.now).axes v (get_or (all_variations gs) i no_variation) → v.peak.now ≡ get_or (shared_peaks (peaks_seen (parts_glyphs p))) r []
+      pub shared_shown : (v : GlyphDeltas) → Shows (account_of p.set.now).axes v (get_or (all_variations gs) i no_variation) → v.peak.now ≡ get_or (shared_peaks (peaks_seen (parts_glyphs p))) r []
       unfolding parts_glyphs
-      shared-shown v h =
+      shared_shown v h =
           h.peak
-          ∙ sym (peak_of gs i order-has)
+          ∙ sym (peak_of gs i order_has)
           ∙ ap (λ (k : ℕ). get_or (peaks_seen gs) k []) e
-          ∙ order-peak (peaks_seen gs) p.cells.now p.ordered r shared
+          ∙ order_peak (peaks_seen gs) p.cells.now p.ordered r shared
 
     -- one shared peak more
-    pub peak-more : (ws : List ℤ) → ws ≡ get_or (shared_peaks (peaks_seen (parts_glyphs p))) r [] → peaks_left (parts_glyphs p) r ≡ signed_words ws ++ peaks_left (parts_glyphs p) (r + 1)
-    peak-more ws e =
+    pub peak_more : (ws : List ℤ) → ws ≡ get_or (shared_peaks (peaks_seen (parts_glyphs p))) r [] → peaks_left (parts_glyphs p) r ≡ signed_words ws ++ peaks_left (parts_glyphs p) (r + 1)
+    peak_more ws e =
         left_more (parts_glyphs p) r (omega (arith, counted)) ∙ ap (λ (zs : List ℤ). signed_words zs ++ peaks_left (parts_glyphs p) (r + 1)) (sym e)
 
-  pub peak-last : (r : ℕ) → p.peaks ≤ r → peaks_left (parts_glyphs p) r ≡ []
-  peak-last r l = left_none (parts_glyphs p) r (omega (arith, counted))
+  pub peak_last : (r : ℕ) → p.peaks ≤ r → peaks_left (parts_glyphs p) r ≡ []
+  peak_last r l = left_none (parts_glyphs p) r (omega (arith, counted))

@@ -20,21 +20,21 @@ pub peak_of : (gs : List Glyph) (i : ℕ) → i < length (all_variations gs) →
 peak_of gs i l = ap (λ (ps : List (List ℤ)). get_or ps i []) (seen_is gs) ∙ get_or-map peak (all_variations gs) i no_variation [] l
 
 module _ (gs : List Glyph) (first count : ℕ) (within : first + count ≤ length (all_variations gs)) where
-  pub spanned-long : length (spanned gs first count) ≡ count
-  spanned-long = let d = length-drop first (all_variations gs) in length-take-le count (drop first (all_variations gs)) (omega arith)
+  pub spanned_long : length (spanned gs first count) ≡ count
+  spanned_long = let d = length-drop first (all_variations gs) in length-take-le count (drop first (all_variations gs)) (omega arith)
 
   module _ (j : ℕ) (l : j < count) where
-    pub spanned-at : get_or (spanned gs first count) j no_variation ≡ get_or (all_variations gs) (first + j) no_variation
-    spanned-at = get_or-take count (drop first (all_variations gs)) j no_variation l ∙ get_or-drop first (all_variations gs) j no_variation
+    pub spanned_at : get_or (spanned gs first count) j no_variation ≡ get_or (all_variations gs) (first + j) no_variation
+    spanned_at = get_or-take count (drop first (all_variations gs)) j no_variation l ∙ get_or-drop first (all_variations gs) j no_variation
 
-    pub spanned-peak : get_or (peaks_seen gs) (first + j) [] ≡ peak (get_or (spanned gs first count) j no_variation)
-    spanned-peak = peak_of gs (first + j) (omega arith) ∙ ap (λ (v : Variation). peak v) (sym spanned-at)
+    pub spanned_peak : get_or (peaks_seen gs) (first + j) [] ≡ peak (get_or (spanned gs first count) j no_variation)
+    spanned_peak = peak_of gs (first + j) (omega arith) ∙ ap (λ (v : Variation). peak v) (sym spanned_at)
 
 -- the cells of a glyph's span have its marks
 pub marked_from : (gs : List Glyph) (cells : List CountCell) (n : ℕ) (p : Span) → Spans gs n p → MarksHeld gs cells → MarkedFrom gs p.first p.count cells
 marked_from gs cells n p s h j l =
     let vs = variations_of n gs in
-    let long : length vs ≡ p.count = ap length (sym s.of_glyph) ∙ spanned-long gs p.first p.count s.within in
+    let long : length vs ≡ p.count = ap length (sym s.of_glyph) ∙ spanned_long gs p.first p.count s.within in
     h (p.first + j) (omega (arith, marks_long gs, s.within))
     ∙ marks_of_glyph n gs j (p.first + j) (omega arith) (ap (λ (k : ℕ). k + j) s.place)
     ∙ ap (λ (ws : List Variation). get_or (marks ws) j false) (sym s.of_glyph)

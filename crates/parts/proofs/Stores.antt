@@ -13,9 +13,9 @@ use Rattle.stores.specs.Parts.{variation_at}
 use Rattle.parts.specs.declared.store.GlyphStore.{GlyphStore}
 use Rattle.counting.specs.Counted.{marks}
 use Rattle.parts.specs.OfStore.{store_peaks, store_variations}
-use Rattle.parts.proofs.Indices.{index-some, index-none}
+use Rattle.parts.proofs.Indices.{index_some, index_none}
 use Rattle.parts.proofs.Peaks.{each_axis}
-use Rattle.parts.proofs.Spans.{peaks_long, spanned-long, spanned-at, spanned-peak}
+use Rattle.parts.proofs.Spans.{peaks_long, spanned_long, spanned_at, spanned_peak}
 
 module _ (s : GlyphStore) where
   abbrev gs : List Glyph
@@ -26,17 +26,17 @@ module _ (s : GlyphStore) where
 
   pub store_long : length (store_variations s) ≡ s.span.count
   unfolding store_variations
-  store_long = spanned-long gs first s.span.count s.within.1
+  store_long = spanned_long gs first s.span.count s.within.1
 
   module _ (j : ℕ) (l : j < s.span.count) where
-    pub store-shows : (r : GlyphDeltas) → Shows (account_of s.set.now).axes r (get_or (all_variations gs) (first + j) no_variation) →
+    pub store_shows : (r : GlyphDeltas) → Shows (account_of s.set.now).axes r (get_or (all_variations gs) (first + j) no_variation) →
         Shows (account_of s.set.now).axes r (variation_at (store_variations s) j)
     unfolding store_variations
-    store-shows r h = subst (λ (v : Variation). Shows (account_of s.set.now).axes r v) (sym (spanned-at gs first s.span.count s.within.1 j l)) h
+    store_shows r h = subst (λ (v : Variation). Shows (account_of s.set.now).axes r v) (sym (spanned_at gs first s.span.count s.within.1 j l)) h
 
-    pub store-mark : marked_at s.cells.now (first + j) ≡ get_or (marks (store_variations s)) j false
+    pub store_mark : marked_at s.cells.now (first + j) ≡ get_or (marks (store_variations s)) j false
     unfolding store_variations
-    store-mark = s.marked j l
+    store_mark = s.marked j l
 
     place : first + j < length (store_peaks s)
     unfolding store_peaks
@@ -44,24 +44,24 @@ module _ (s : GlyphStore) where
 
     peak_is : get_or (store_peaks s) (first + j) [] ≡ peak (variation_at (store_variations s) j)
     unfolding store_peaks store_variations
-    peak_is = spanned-peak gs first s.span.count s.within.1 j l
+    peak_is = spanned_peak gs first s.span.count s.within.1 j l
 
-    pub store-index : (r : ℕ) → r ≡ rank_at s.cells.now (first + j) → r < s.peaks → some r ≡ shared_index (store_peaks s) (peak (variation_at (store_variations s) j))
+    pub store_index : (r : ℕ) → r ≡ rank_at s.cells.now (first + j) → r < s.peaks → some r ≡ shared_index (store_peaks s) (peak (variation_at (store_variations s) j))
     unfolding store_peaks
-    store-index r e h =
-        sym (index-some (store_peaks s) (first + j) place r (e ∙ s.ranked (first + j) place) (omega (arith, s.counted)))
+    store_index r e h =
+        sym (index_some (store_peaks s) (first + j) place r (e ∙ s.ranked (first + j) place) (omega (arith, s.counted)))
         ∙ ap (λ (p : List ℤ). shared_index (store_peaks s) p) peak_is
 
-    pub store-no-index : (r : ℕ) → r ≡ rank_at s.cells.now (first + j) → s.peaks ≤ r → none ≡ shared_index (store_peaks s) (peak (variation_at (store_variations s) j))
+    pub store_no_index : (r : ℕ) → r ≡ rank_at s.cells.now (first + j) → s.peaks ≤ r → none ≡ shared_index (store_peaks s) (peak (variation_at (store_variations s) j))
     unfolding store_peaks
-    store-no-index r e h =
-        sym (index-none (store_peaks s) (first + j) place r (e ∙ s.ranked (first + j) place) (omega (arith, s.counted)))
+    store_no_index r e h =
+        sym (index_none (store_peaks s) (first + j) place r (e ∙ s.ranked (first + j) place) (omega (arith, s.counted)))
         ∙ ap (λ (p : List ℤ). shared_index (store_peaks s) p) peak_is
 
     -- it has no more tents than a set may have axes
-    pub store-axes : length (variation_at (store_variations s) j).tents ≤ 64
+    pub store_axes : length (variation_at (store_variations s) j).tents ≤ 64
     unfolding store_peaks
-    store-axes =
+    store_axes =
         let e = All-get_or (λ (p : List ℤ). length p ≡ (account_of s.set.now).axes) (store_peaks s) (first + j) [] place (each_axis s.set.now) in
         let p = ap length peak_is in
         let m = length-map (variation_at (store_variations s) j).tents (λ t. t.peak) in

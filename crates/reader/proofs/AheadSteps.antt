@@ -26,9 +26,9 @@ module _ {X : Type 0} where
         let z : y ≡ x = cc in
         (xs, ap (λ t. t ∷ xs) z, h ∙ ap rest_of e)
 
-    pub ends-here : (xs : List X) → a ≡ give_all xs (ends past) → Ok None ≡ answer_of a → xs ≡ []
-    ends-here [] e s = refl
-    ends-here (y ∷ xs) e s = absurd (let q : Ok None ≡ Ok (Some y) = s ∙ ap answer_of e in let z : ◌≡◌ {A = ℕ} 0 1 = cc in omega arith)
+    pub ends_here : (xs : List X) → a ≡ give_all xs (ends past) → Ok None ≡ answer_of a → xs ≡ []
+    ends_here [] e s = refl
+    ends_here (y ∷ xs) e s = absurd (let q : Ok None ≡ Ok (Some y) = s ∙ ap answer_of e in let z : ◌≡◌ {A = ℕ} 0 1 = cc in omega arith)
 
     pub no_fault : (xs : List X) (f : StreamFault) → a ≡ give_all xs (ends past) → Err f ≡ answer_of a → xs ≡ []
     no_fault [] f e s = refl

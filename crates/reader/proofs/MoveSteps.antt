@@ -5,11 +5,11 @@ use Rattle.streams.specs.declared.deltas.DeltaCursor.{DeltaCursor}
 use Rattle.streams.specs.Ahead.{ends, give_all}
 use Rattle.streams.specs.Deltas.{deltas_ahead, DeltaStep}
 use Rattle.reader.specs.MoveWalks.{DeltaCame}
-use Rattle.reader.proofs.AheadSteps.{comes, ends-here}
+use Rattle.reader.proofs.AheadSteps.{comes, ends_here}
 
 -- a step of a cursor over deltas
 pub delta_came : (c c' : DeltaCursor) (vs : List ℤ) (past : ℕ) (o : Maybe ℤ) → deltas_ahead c ≡ give_all vs (ends past) → DeltaStep c (Ok o) c' → DeltaCame vs o c'
-delta_came c c' vs past None e s = ends-here (deltas_ahead c) (deltas_ahead c') past vs e s.answer
+delta_came c c' vs past None e s = ends_here (deltas_ahead c) (deltas_ahead c') past vs e s.answer
 delta_came c c' vs past (Some v) e s =
     let r = comes (deltas_ahead c) (deltas_ahead c') past vs v e s.answer s.ahead in
     (r.0, r.1, (past, r.2))

@@ -20,13 +20,13 @@ same_fault : {X : Type 0} (r : Read X) (d e : Declined) → r ≡ fault d → r 
 same_fault r d e a b = cc
 
 module _ (bs : List ℕ) (g p : ℕ) where
-  pub table-wrong : (d : Declined) → first_of (table_conditions bs) ≡ some d → read_glyph bs g p ≡ fault d
+  pub table_wrong : (d : Declined) → first_of (table_conditions bs) ≡ some d → read_glyph bs g p ≡ fault d
   unfolding read_glyph
-  table-wrong d e = rw e
+  table_wrong d e = rw e
 
-  table-right : first_of (table_conditions bs) ≡ none → read_glyph bs g p ≡ read_slot (checked bs) g p
+  table_right : first_of (table_conditions bs) ≡ none → read_glyph bs g p ≡ read_slot (checked bs) g p
   unfolding read_glyph
-  table-right e = rw e
+  table_right e = rw e
 
   -- what an answer says of the reading
   abbrev pub Answered : Result Slot Fault → Type 0
@@ -42,8 +42,8 @@ module _ (bs : List ℕ) (g p : ℕ) where
   refuses (Err f) a d e = (f, refl, same_fault (read_glyph bs g p) (fault_declined f) d a e)
 
 by_slot : (t : Table) (g p : ℕ) (r : Result Slot Fault) → Sound t → SlotAnswer t g p r → Answered t.bytes.now g p r
-by_slot t g p (Ok s) w a = (a.entries, table-right t.bytes.now g p w.no_fault ∙ a.is_read, a.walk)
-by_slot t g p (Err f) w a = table-right t.bytes.now g p w.no_fault ∙ a
+by_slot t g p (Ok s) w a = (a.entries, table_right t.bytes.now g p w.no_fault ∙ a.is_read, a.walk)
+by_slot t g p (Err f) w a = table_right t.bytes.now g p w.no_fault ∙ a
 
 pub answered : (bs : List ℕ) (t : Table) (g p : ℕ) (r : Result Slot Fault) → t.bytes.now ≡ bs → Sound t → SlotAnswer t g p r → Answered bs g p r
 answered bs t g p r e w a = subst (λ (l : List ℕ). Answered l g p r) e (by_slot t g p r w a)

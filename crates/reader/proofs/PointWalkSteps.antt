@@ -4,7 +4,7 @@ use mathlib.Core.Option.{none}
 use Rattle.format.specs.Account.{Declined, declined}
 use Rattle.format.specs.Packed.{Points, every, only}
 use Rattle.format.specs.Glyphs.{listed}
-use Rattle.format.specs.Streams.{Rest, rest, Read, found, fault, and_then, point-runs, read-points}
+use Rattle.format.specs.Streams.{Rest, rest, Read, found, fault, and_then, point_runs, read_points}
 use Rattle.format.specs.Reader.{points_of}
 use Rattle.streams.specs.declared.fault.StreamFault.{StreamFault}
 use Rattle.streams.specs.declared.points.PointCursor.{PointCursor}
@@ -16,7 +16,7 @@ use Rattle.slots.proofs.HeadSteps.{not_both}
 use Rattle.reader.specs.declared.points.PointWalk.{PointWalk}
 use Rattle.reader.specs.declared.points.PointWalk.TheVariants.{Listed}
 use Rattle.reader.specs.PointWalks.{PointsLeft, Came}
-use Rattle.reader.proofs.AheadSteps.{gives_all, comes, ends-here}
+use Rattle.reader.proofs.AheadSteps.{gives_all, comes, ends_here}
 
 pub any_decline : ℕ → ℕ → Declined
 any_decline n at = declined n none none none
@@ -29,7 +29,7 @@ every_next q p qs h e =
 
 -- a step of the list's cursor
 pub came : (c c' : PointCursor) (qs : List ℕ) (past : ℕ) (o : Maybe ℕ) → points_ahead c ≡ give_all qs (ends past) → PointStep c (Ok o) c' → Came qs o (Listed c')
-came c c' qs past None e s = ends-here (points_ahead c) (points_ahead c') past qs e s.answer
+came c c' qs past None e s = ends_here (points_ahead c) (points_ahead c') past qs e s.answer
 came c c' qs past (Some q) e s =
     let r = comes (points_ahead c) (points_ahead c') past qs q e s.answer s.ahead in
     (r.0, r.1, (past, r.2))
@@ -57,16 +57,16 @@ no_every (found s) left e h =
     let v : only s.value ≡ every = ap (λ t. t.value) q in
     let z : ◌≡◌ {A = ℕ} 0 1 = cc in omega arith
 
-some_count : (d : ℕ → ℕ → Declined) (p : ℕ) (bs : List ℕ) (n past : ℕ) → 0 < n → by_count d p bs n past ≡ and_then (point-runs d n p n 0 0 (drop past bs) past) (λ s. found (rest (only s.value) s.left s.place))
+some_count : (d : ℕ → ℕ → Declined) (p : ℕ) (bs : List ℕ) (n past : ℕ) → 0 < n → by_count d p bs n past ≡ and_then (point_runs d n p n 0 0 (drop past bs) past) (λ s. found (rest (only s.value) s.left s.place))
 some_count d p bs zero past h = absurd (omega arith)
 some_count d p bs (suc n) past h = refl
 
 listed_points : (d : ℕ → ℕ → Declined) (p : ℕ) (bs : List ℕ) (n past : ℕ) (set : Points) (left : List ℕ) (e : ℕ) → 0 < n → by_count d p bs n past ≡ found (rest set left e) →
-    point-runs d n p n 0 0 (drop past bs) past ≡ found (rest (points_of p set) left e)
-listed_points d p bs n past (only qs) left e h f = counted_inv (point-runs d n p n 0 0 (drop past bs) past) qs left e (sym (some_count d p bs n past h) ∙ f)
-listed_points d p bs n past every left e h f = absurd (no_every (point-runs d n p n 0 0 (drop past bs) past) left e (sym (some_count d p bs n past h) ∙ f))
+    point_runs d n p n 0 0 (drop past bs) past ≡ found (rest (points_of p set) left e)
+listed_points d p bs n past (only qs) left e h f = counted_inv (point_runs d n p n 0 0 (drop past bs) past) qs left e (sym (some_count d p bs n past h) ∙ f)
+listed_points d p bs n past every left e h f = absurd (no_every (point_runs d n p n 0 0 (drop past bs) past) left e (sym (some_count d p bs n past h) ∙ f))
 
-own_true : (d : ℕ → ℕ → Declined) (p : ℕ) (b : Bool) (bs : List ℕ) (at : ℕ) → b ≡ true → own_or_shared d p every b bs at ≡ read-points d p bs at
+own_true : (d : ℕ → ℕ → Declined) (p : ℕ) (b : Bool) (bs : List ℕ) (at : ℕ) → b ≡ true → own_or_shared d p every b bs at ≡ read_points d p bs at
 own_true d p b bs at e = rw e
 
 own_false : (d : ℕ → ℕ → Declined) (p : ℕ) (b : Bool) (bs : List ℕ) (at : ℕ) → b ≡ false → own_or_shared d p every b bs at ≡ found (rest every bs at)
@@ -81,16 +81,16 @@ module _ (p : ℕ) (set : Points) (left : List ℕ) (e : ℕ) (bs : List ℕ) (a
   unlisted eb = all_points p set left (drop at bs) e at (own_or_shared any_decline p every b (drop at bs) at) (own_false any_decline p b (drop at bs) at eb) f
 
   module _ (eb : b ≡ true) where
-    pub faulty : (g : StreamFault) → read-points any_decline p (drop at bs) at ≡ fault (stream_declined any_decline g) → points_of p set ≡ listed 0 (p - 0) (λ i. i)
+    pub faulty : (g : StreamFault) → read_points any_decline p (drop at bs) at ≡ fault (stream_declined any_decline g) → points_of p set ≡ listed 0 (p - 0) (λ i. i)
     faulty g h = absurd (not_both (own_or_shared any_decline p every b (drop at bs) at) _ _ (own_true any_decline p b (drop at bs) at eb ∙ h) f)
 
-    module _ (n past : ℕ) (h : read-points any_decline p (drop at bs) at ≡ by_count any_decline p bs n past) where
+    module _ (n past : ℕ) (h : read_points any_decline p (drop at bs) at ≡ by_count any_decline p bs n past) where
       pub uncounted : n ≡ 0 → points_of p set ≡ listed 0 (p - 0) (λ i. i)
       uncounted z =
           all_points p set left (drop past bs) e past (own_or_shared any_decline p every b (drop at bs) at)
           (own_true any_decline p b (drop at bs) at eb ∙ h ∙ no_count any_decline p bs n past z) f
 
-      pub counted : (c : PointCursor) → 0 < n → read_ahead any_decline bs (points_ahead c) ≡ point-runs any_decline n p n 0 0 (drop past bs) past → PointsLeft (Listed c) (points_of p set)
+      pub counted : (c : PointCursor) → 0 < n → read_ahead any_decline bs (points_ahead c) ≡ point_runs any_decline n p n 0 0 (drop past bs) past → PointsLeft (Listed c) (points_of p set)
       counted c z r =
           let m = listed_points any_decline p bs n past set left e z (sym h ∙ sym (own_true any_decline p b (drop at bs) at eb) ∙ f) in
           (e, gives_all any_decline bs (points_ahead c) (points_of p set) left e (r ∙ m))

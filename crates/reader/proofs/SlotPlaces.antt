@@ -11,7 +11,7 @@ use Rattle.format.specs.Reader.{checked, word_at, long_at, offset_of, offset_con
 use Rattle.format.proofs.Conditions.{Off, none_applies}
 use Rattle.reader.specs.declared.table.Head.{Head}
 use Rattle.reader.specs.Tables.{offset_in, says_long, head_of}
-use Rattle.reader.proofs.TableSteps.{offset_is, before, before_next, applies-is}
+use Rattle.reader.proofs.TableSteps.{offset_is, before, before_next, applies_is}
 
 listed_off : (f : ℕ → Condition) (n i : ℕ) → All Off (listed i n f) → (k : ℕ) → i ≤ k → k < i + n → (f k).applies ≡ false
 listed_off f zero i o k h l = absurd (omega arith)
@@ -26,17 +26,17 @@ module _ (bs : List ℕ) (fine : first_of (table_conditions bs) ≡ none) where
   off : All Off (table_conditions bs)
   off = none_applies (table_conditions bs) fine
 
-  pub offsets-inside : 20 + cond (says_long bs) 4 2 * (word_at bs 12 + 1) ≤ length bs
-  offsets-inside = ltb-false _ _ off.1.1.0
+  pub offsets_inside : 20 + cond (says_long bs) 4 2 * (word_at bs 12 + 1) ≤ length bs
+  offsets_inside = ltb-false _ _ off.1.1.0
 
-  pub peaks-inside : long_at bs 8 + 2 * (word_at bs 4 * word_at bs 6) ≤ length bs
-  peaks-inside = ltb-false _ _ off.1.1.1.0
+  pub peaks_inside : long_at bs 8 + 2 * (word_at bs 4 * word_at bs 6) ≤ length bs
+  peaks_inside = ltb-false _ _ off.1.1.1.0
 
   rising : (g : ℕ) → g < word_at bs 12 → offset_in bs (says_long bs) g ≤ offset_in bs (says_long bs) (g + 1)
   rising g l =
       let a = listed_off (offset_condition (checked bs)) (word_at bs 12 + 1) 0 off.1.1.1.1.1 (g + 1) (omega arith) (omega arith) in
       let b = or_parts (ltb (offset_in bs (says_long bs) (g + 1)) (before bs (says_long bs) (g + 1))) _
-      (sym (applies-is bs (says_long bs) (word_at bs 12) (long_at bs 16) offsets-inside (checked bs) refl refl refl refl (g + 1) (omega arith)) ∙ a) in
+      (sym (applies_is bs (says_long bs) (word_at bs 12) (long_at bs 16) offsets_inside (checked bs) refl refl refl refl (g + 1) (omega arith)) ∙ a) in
       let low : before bs (says_long bs) (g + 1) ≤ offset_in bs (says_long bs) (g + 1) = ltb-false _ _ b.0 in
       omega (arith, before_next bs (says_long bs) g)
 
@@ -44,8 +44,8 @@ in_range : (n g p : ℕ) → (leb n g || ltb 32767 p) ≡ false → g < n
 in_range n g p e = leb-false n g (or_parts (leb n g) _ e).0
 
 module _ (bs : List ℕ) (g p : ℕ) where
-  pub call-wrong : (h : Head) → h ≡ head_of bs → (leb h.glyphs g || ltb 32767 p) ≡ true → read_slot (checked bs) g p ≡ fault (declined 20 (some g) none none)
-  call-wrong h e t =
+  pub call_wrong : (h : Head) → h ≡ head_of bs → (leb h.glyphs g || ltb 32767 p) ≡ true → read_slot (checked bs) g p ≡ fault (declined 20 (some g) none none)
+  call_wrong h e t =
       let t' : (leb (word_at bs 12) g || ltb 32767 p) ≡ true = ap (λ x. leb x g || ltb 32767 p) (sym (ap (λ x. x.glyphs) e)) ∙ t in
       rw t'
 
@@ -60,17 +60,17 @@ module _ (bs : List ℕ) (g p : ℕ) where
     less = in_range (word_at bs 12) g p t'
 
     -- both offsets of the glyph lie in the table
-    pub first-inside : 20 + cond h.long 4 2 * (g + 1) ≤ length bs
-    first-inside =
+    pub first_inside : 20 + cond h.long 4 2 * (g + 1) ≤ length bs
+    first_inside =
         let l = less in
-        subst (λ (x : Head). 20 + cond x.long 4 2 * (g + 1) ≤ length bs) (sym e) (by (says_long bs) (offsets-inside bs fine))
+        subst (λ (x : Head). 20 + cond x.long 4 2 * (g + 1) ≤ length bs) (sym e) (by (says_long bs) (offsets_inside bs fine))
       where
         by : (b : Bool) → 20 + cond b 4 2 * (word_at bs 12 + 1) ≤ length bs → 20 + cond b 4 2 * (g + 1) ≤ length bs
         by true r = let l = less in omega arith
         by false r = let l = less in omega arith
 
-    pub second-inside : 20 + cond h.long 4 2 * (g + 1 + 1) ≤ length bs
-    second-inside = subst (λ (x : Head). 20 + cond x.long 4 2 * (g + 1 + 1) ≤ length bs) (sym e) (by (says_long bs) (offsets-inside bs fine))
+    pub second_inside : 20 + cond h.long 4 2 * (g + 1 + 1) ≤ length bs
+    second_inside = subst (λ (x : Head). 20 + cond x.long 4 2 * (g + 1 + 1) ≤ length bs) (sym e) (by (says_long bs) (offsets_inside bs fine))
       where
         by : (b : Bool) → 20 + cond b 4 2 * (word_at bs 12 + 1) ≤ length bs → 20 + cond b 4 2 * (g + 1 + 1) ≤ length bs
         by true r = let l = less in omega arith
@@ -82,7 +82,7 @@ module _ (bs : List ℕ) (g p : ℕ) where
     located start stop es ep =
         let l = less in
         let d = h.data_at in
-        let room = offsets-inside bs fine in
+        let room = offsets_inside bs fine in
         let q : long_at bs 16 ≡ d = sym (ap (λ x. x.data_at) e) in
         let at-start : start ≡ offset_in bs (says_long bs) g = es ∙ ap (λ (x : Head). offset_in bs x.long g) e in
         let at-stop : stop ≡ offset_in bs (says_long bs) (g + 1) = ep ∙ ap (λ (x : Head). offset_in bs x.long (g + 1)) e in

@@ -11,7 +11,7 @@ use Rattle.reader.specs.declared.table.Table.{Table}
 use Rattle.reader.specs.declared.tuple.Tuple.{Tuple}
 use Rattle.reader.specs.Tables.{head_of}
 use Rattle.reader.specs.Tuples.{words_in, Holds}
-use Rattle.reader.proofs.SlotPlaces.{peaks-inside}
+use Rattle.reader.proofs.SlotPlaces.{peaks_inside}
 use Rattle.reader.proofs.TupleSteps.{words_are, part_of_front}
 
 -- a tuple that was cut from the front of a table
@@ -29,22 +29,22 @@ holds_of t u front end q vs e l f v =
 
 -- a shared peak
 module _ (bs : List ℕ) (fine : first_of (table_conditions bs) ≡ none) (i : ℕ) (less : i < word_at bs 6) where
-  shared-inside : long_at bs 8 + 2 * (word_at bs 4 * i) + 2 * word_at bs 4 ≤ length bs
-  shared-inside =
+  shared_inside : long_at bs 8 + 2 * (word_at bs 4 * i) + 2 * word_at bs 4 ≤ length bs
+  shared_inside =
       let few : word_at bs 4 * suc i ≤ word_at bs 4 * word_at bs 6 = mul-le-mul (omega arith) (omega arith) in
-      omega (arith, few, peaks-inside bs fine)
+      omega (arith, few, peaks_inside bs fine)
 
   shared_is : shared_peak (checked bs) i ≡ words_in (take (2 * word_at bs 4) (drop (long_at bs 8 + 2 * (word_at bs 4 * i)) bs))
   shared_is =
       let q = long_at bs 8 + 2 * (word_at bs 4 * i) in
-      ap (value_or [] (λ r. r.0)) (words_are (word_at bs 4) (drop q bs) (omega (arith, shared-inside, length-drop q bs)))
+      ap (value_or [] (λ r. r.0)) (words_are (word_at bs 4) (drop q bs) (omega (arith, shared_inside, length-drop q bs)))
 
   -- at the place that the head gives
-  pub shared-by-head : (h : Head) → h ≡ head_of bs →
+  pub shared_by_head : (h : Head) → h ≡ head_of bs →
       (h.peaks_at + 2 * (h.axes * i) + 2 * h.axes ≤ length bs) × (shared_peak (checked bs) i ≡ words_in (take (2 * h.axes) (drop (h.peaks_at + 2 * (h.axes * i)) bs)))
-  shared-by-head h e =
+  shared_by_head h e =
       subst (λ (h : Head). (h.peaks_at + 2 * (h.axes * i) + 2 * h.axes ≤ length bs) × (shared_peak (checked bs) i ≡ words_in (take (2 * h.axes) (drop (h.peaks_at + 2 * (h.axes * i)) bs))))
-      (sym e) (shared-inside, shared_is)
+      (sym e) (shared_inside, shared_is)
 
 -- a peak that is not embedded is among the shared ones
 pub peak_is_there : (w count : ℕ) → is_embedded w ≡ false → no_peak w count ≡ false → peak_index w < count

@@ -68,16 +68,16 @@ module _ (bs : List ℕ) (at a : ℕ) (h : Head) (r : HeadRead bs at a h) where
       let n = tuple_words a h.index in
       same_words _ r.values _ _ _ r.tuples_read (words_are n (drop (at + 4) bs) (omega (arith, length-drop (at + 4) bs, r.place, r.inside)))
 
-  pub embedded-is : (q : ℕ) → is_embedded h.index ≡ true → q ≡ h.past - 2 * tuple_words a h.index → take (cond (is_embedded h.index) a 0) r.values ≡ words_in (take (2 * a) (drop q bs))
-  embedded-is q e eq =
+  pub embedded_is : (q : ℕ) → is_embedded h.index ≡ true → q ≡ h.past - 2 * tuple_words a h.index → take (cond (is_embedded h.index) a 0) r.values ≡ words_in (take (2 * a) (drop q bs))
+  embedded_is q e eq =
       let n = tuple_words a h.index in
       let c : cond (is_embedded h.index) a 0 ≡ a = cond-true _ _ _ e in
       let p : at + 4 ≡ q = omega (arith, r.place) in
       let t = take-take (2 * a) (2 * n) (drop (at + 4) bs) (omega arith) in
       ap (λ k. take k r.values) c ∙ ap (take a) values_are ∙ take_words a (take (2 * n) (drop (at + 4) bs)) ∙ ap words_in t ∙ ap (λ k. words_in (take (2 * a) (drop k bs))) p
 
-  pub embedded-inside : (q : ℕ) → is_embedded h.index ≡ true → q ≡ h.past - 2 * tuple_words a h.index → q + 2 * a ≤ length bs
-  embedded-inside q e eq =
+  pub embedded_inside : (q : ℕ) → is_embedded h.index ≡ true → q ≡ h.past - 2 * tuple_words a h.index → q + 2 * a ≤ length bs
+  embedded_inside q e eq =
       let c : cond (is_embedded h.index) a 0 ≡ a = cond-true _ _ _ e in
       omega (arith, r.place, r.inside)
 
@@ -85,8 +85,8 @@ module _ (bs : List ℕ) (at a : ℕ) (h : Head) (r : HeadRead bs at a h) where
     count : tuple_words a h.index ≡ cond (is_embedded h.index) a 0 + 2 * a
     count = ap (λ k. cond (is_embedded h.index) a 0 + k) (cond-true _ _ _ reg)
 
-    pub starts-are : (q : ℕ) → q ≡ h.past - 4 * a → take a (drop (cond (is_embedded h.index) a 0) r.values) ≡ words_in (take (2 * a) (drop q bs))
-    starts-are q eq =
+    pub starts_are : (q : ℕ) → q ≡ h.past - 4 * a → take a (drop (cond (is_embedded h.index) a 0) r.values) ≡ words_in (take (2 * a) (drop q bs))
+    starts_are q eq =
         let n = tuple_words a h.index in
         let k = cond (is_embedded h.index) a 0 in
         let p : at + 4 + 2 * k ≡ q = omega (arith, r.place, count) in
@@ -94,8 +94,8 @@ module _ (bs : List ℕ) (at a : ℕ) (h : Head) (r : HeadRead bs at a h) where
         ∙ ap words_in (part_of_front (2 * k) (2 * a) (2 * n) (drop (at + 4) bs) (omega (arith, count)))
         ∙ ap (λ l. words_in (take (2 * a) l)) (drop-drop (2 * k) (at + 4) bs ∙ ap (λ m. drop m bs) p)
 
-    pub ends-are : (q : ℕ) → q ≡ h.past - 2 * a → drop a (drop (cond (is_embedded h.index) a 0) r.values) ≡ words_in (take (2 * a) (drop q bs))
-    ends-are q eq =
+    pub ends_are : (q : ℕ) → q ≡ h.past - 2 * a → drop a (drop (cond (is_embedded h.index) a 0) r.values) ≡ words_in (take (2 * a) (drop q bs))
+    ends_are q eq =
         let n = tuple_words a h.index in
         let k = cond (is_embedded h.index) a 0 in
         let p : at + 4 + (2 * k + 2 * a) ≡ q = omega (arith, r.place, count) in
@@ -104,8 +104,8 @@ module _ (bs : List ℕ) (at a : ℕ) (h : Head) (r : HeadRead bs at a h) where
         ∙ ap words_in (drop-drop (2 * a) (2 * k) (take (2 * n) (drop (at + 4) bs)) ∙ ap (λ z. drop (2 * k + 2 * a) (take z (drop (at + 4) bs))) m ∙ drop-take (2 * k + 2 * a) (2 * a) (drop (at + 4) bs))
         ∙ ap (λ l. words_in (take (2 * a) l)) (drop-drop (2 * k + 2 * a) (at + 4) bs ∙ ap (λ z. drop z bs) p)
 
-    pub starts-inside : (q : ℕ) → q ≡ h.past - 4 * a → q + 2 * a ≤ length bs
-    starts-inside q eq = omega (arith, r.place, r.inside, count)
+    pub starts_inside : (q : ℕ) → q ≡ h.past - 4 * a → q + 2 * a ≤ length bs
+    starts_inside q eq = omega (arith, r.place, r.inside, count)
 
-    pub ends-inside : (q : ℕ) → q ≡ h.past - 2 * a → q + 2 * a ≤ length bs
-    ends-inside q eq = omega (arith, r.place, r.inside, count)
+    pub ends_inside : (q : ℕ) → q ≡ h.past - 2 * a → q + 2 * a ≤ length bs
+    ends_inside q eq = omega (arith, r.place, r.inside, count)

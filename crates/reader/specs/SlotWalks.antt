@@ -3,8 +3,8 @@ use Rattle.std.specs.Prelude.{◌≡◌, ℕ, ◌-◌, Bool, true, false, List, 
 use Rattle.std.proofs.Math.Option.{none}
 use Rattle.format.specs.Account.{Declined, first_of, implied_start, implied_end}
 use Rattle.format.specs.Packed.{Points}
-use Rattle.format.specs.Streams.{rest, found, fault, read-deltas}
-use Rattle.format.specs.Reader.{Header, checked, header_of, entry_of, points_of, peak-conditions, read-headers, read_entries, read_slot}
+use Rattle.format.specs.Streams.{rest, found, fault, read_deltas}
+use Rattle.format.specs.Reader.{Header, checked, header_of, entry_of, points_of, peak_conditions, read_headers, read_entries, read_slot}
 use Rattle.format.specs.Reader.{Entry as Read-entry}
 use Rattle.slots.specs.Heads.{no_peak, HeadRead}
 use Rattle.reader.specs.declared.fault.Fault.{Fault}
@@ -32,8 +32,8 @@ pub record Walk (s : Slot) (es : List Read-entry) : Type 0 where
   pub headers : List Header
   pub left : List ℕ
   pub past : ℕ
-  pub heads_read : read-headers glyph s.table.head.axes s.i (s.count - s.i) (drop s.header s.bytes.now) s.header ≡ found (rest headers left past)
-  pub peaks_there : first_of (peak-conditions glyph s.table.head.peaks s.i headers) ≡ none
+  pub heads_read : read_headers glyph s.table.head.axes s.i (s.count - s.i) (drop s.header s.bytes.now) s.header ≡ found (rest headers left past)
+  pub peaks_there : first_of (peak_conditions glyph s.table.head.peaks s.i headers) ≡ none
   -- their entries
   pub after : List ℕ
   pub end : ℕ
@@ -56,7 +56,7 @@ SlotAnswer t g p (Err f) = read_slot (checked t.bytes.now) g p ≡ fault (fault_
 
 -- k deltas at a place are read without fault
 abbrev pub DeltasRead : List ℕ → ℕ → ℕ → List ℤ → Type 0
-DeltasRead bs at k vs = (left : List ℕ) × (past : ℕ) × ((d : ℕ → ℕ → Declined) → read-deltas d k (drop at bs) at ≡ found (rest vs left past))
+DeltasRead bs at k vs = (left : List ℕ) × (past : ℕ) × ((d : ℕ → ℕ → Declined) → read_deltas d k (drop at bs) at ≡ found (rest vs left past))
 
 -- an entry shows what the definition gives: its header, points, x and y are those of the definition's entry
 pub record Shows (e : Entry) (x : Read-entry) : Type 0 where

@@ -13,7 +13,7 @@ use Rattle.sets.specs.Given.{given, variation_call}
 use Rattle.sets.specs.Layout.{Stores, account_in, dealt, groups}
 use Rattle.sets.specs.Sound.{Sound}
 use Rattle.sets.specs.Writing.{last_cell, front, last_variations, Admitted}
-use Rattle.sets.proofs.Deal.{glyphs_are, last-length}
+use Rattle.sets.proofs.Deal.{glyphs_are, last_length}
 
 -- the five conditions, with their tests
 abbrev pub five : (tents deltas differs variations lacks : Bool) (g v : ℕ) → Option Declined
@@ -40,7 +40,7 @@ module _ (s : Stores) (h : Sound s) (any : 0 < s.begun) (ts : List Tent) (ds : L
   refusal_is =
       ap (λ (gs : List Glyph). refusal (record { axes = s.axes; free = (account_in s).free; glyphs = gs }) (variation_call ts ds)) (glyphs_are s h any)
       ∙ refusal_at s.axes (account_in s).free (groups (front s) (dealt s)) (record { number = (last_cell s).number; variations = last_variations s }) (map given ts) (deltas_of ds)
-      ∙ rw (length-map ts given, length-map ds delta_of, last-length s h any) refl
+      ∙ rw (length-map ts given, length-map ds delta_of, last_length s h any) refl
 
   module _ (l : GlyphCell) (is : l ≡ last_cell s) where
     abbrev differs : Bool
@@ -52,35 +52,35 @@ module _ (s : Stores) (h : Sound s) (any : 0 < s.begun) (ts : List Tent) (ds : L
     abbrev wanted : Option Declined
     wanted = refusal (account_in s) (variation_call ts ds)
 
-    refusal-of : wanted ≡ five (not (eqb (length ts) s.axes)) (ltb 32767 (length ds)) differs (leb 4095 l.variations) lacks l.number l.variations
-    refusal-of = rw is refusal_is
+    refusal_of : wanted ≡ five (not (eqb (length ts) s.axes)) (ltb 32767 (length ds)) differs (leb 4095 l.variations) lacks l.number l.variations
+    refusal_of = rw is refusal_is
 
     abbrev at : ℕ → Option Declined
     at n = some (declined n (some l.number) (some l.variations) none)
 
-    tents-pass : length ts ≡ s.axes → not (eqb (length ts) s.axes) ≡ false
-    tents-pass e = not_from_true _ (eq-eqb _ _ e)
+    tents_pass : length ts ≡ s.axes → not (eqb (length ts) s.axes) ≡ false
+    tents_pass e = not_from_true _ (eq-eqb _ _ e)
 
-    deltas-pass : length ds ≤ 32767 → ltb 32767 (length ds) ≡ false
-    deltas-pass h6 = le-ltb _ _ h6
+    deltas_pass : length ds ≤ 32767 → ltb 32767 (length ds) ≡ false
+    deltas_pass h6 = le-ltb _ _ h6
 
-    pub wrong-tents : (length ts ≡ s.axes → ⊥) → at 5 ≡ wanted
-    wrong-tents e = sym (refusal-of ∙ rw (not_from_false _ (ne_eqb _ _ e)) refl)
+    pub wrong_tents : (length ts ≡ s.axes → ⊥) → at 5 ≡ wanted
+    wrong_tents e = sym (refusal_of ∙ rw (not_from_false _ (ne_eqb _ _ e)) refl)
 
     pub many_deltas : length ts ≡ s.axes → 32767 < length ds → at 6 ≡ wanted
-    many_deltas e5 e = sym (refusal-of ∙ rw (tents-pass e5, lt-ltb _ _ e) refl)
+    many_deltas e5 e = sym (refusal_of ∙ rw (tents_pass e5, lt-ltb _ _ e) refl)
 
     pub unlike : length ts ≡ s.axes → length ds ≤ 32767 → true ≡ differs → at 7 ≡ wanted
-    unlike e5 e6 e = sym (refusal-of ∙ rw (tents-pass e5, deltas-pass e6, ← e) refl)
+    unlike e5 e6 e = sym (refusal_of ∙ rw (tents_pass e5, deltas_pass e6, ← e) refl)
 
     pub many_variations : length ts ≡ s.axes → length ds ≤ 32767 → false ≡ differs → 4095 ≤ l.variations → at 8 ≡ wanted
-    many_variations e5 e6 e7 e = sym (refusal-of ∙ rw (tents-pass e5, deltas-pass e6, ← e7, le-leb _ _ e) refl)
+    many_variations e5 e6 e7 e = sym (refusal_of ∙ rw (tents_pass e5, deltas_pass e6, ← e7, le-leb _ _ e) refl)
 
     pub no_room : length ts ≡ s.axes → length ds ≤ 32767 → false ≡ differs → l.variations < 4095 → true ≡ lacks → at 9 ≡ wanted
-    no_room e5 e6 e7 e8 e = sym (refusal-of ∙ rw (tents-pass e5, deltas-pass e6, ← e7, lt-leb _ _ e8, ← e) refl)
+    no_room e5 e6 e7 e8 e = sym (refusal_of ∙ rw (tents_pass e5, deltas_pass e6, ← e7, lt-leb _ _ e8, ← e) refl)
 
     pub passes : length ts ≡ s.axes → length ds ≤ 32767 → false ≡ differs → l.variations < 4095 → false ≡ lacks → none ≡ wanted
-    passes e5 e6 e7 e8 e = sym (refusal-of ∙ rw (tents-pass e5, deltas-pass e6, ← e7, lt-leb _ _ e8, ← e) refl)
+    passes e5 e6 e7 e8 e = sym (refusal_of ∙ rw (tents_pass e5, deltas_pass e6, ← e7, lt-leb _ _ e8, ← e) refl)
 
     pub admitted : length ts ≡ s.axes → length ds ≤ 32767 → l.variations < 4095 → false ≡ lacks → Admitted s (length ts) (length ds)
     admitted e5 e6 e8 e =

@@ -16,20 +16,20 @@ some_step P true k x e h l = let z : k ≡ suc k - 1 = omega arith in subst P z 
 some_step P false k x e h l = h l
 
 module _ (N : ℕ → ℕ) (n b : ℕ) where
-  pub previous-le : (k : ℕ) → previous N n b k ≤ k
-  previous-le zero = omega arith
-  previous-le (suc k) = le_step (eqb (N k % n) b) k (previous N n b k) (previous-le k)
+  pub previous_le : (k : ℕ) → previous N n b k ≤ k
+  previous_le zero = omega arith
+  previous_le (suc k) = le_step (eqb (N k % n) b) k (previous N n b k) (previous_le k)
 
-  pub previous-all : (k g : ℕ) → g < k → N g % n ≡ b → g < previous N n b k
-  previous-all zero g l e = absurd (omega arith)
-  previous-all (suc k) g l e =
-      all_step (eqb (N k % n) b) k (previous N n b k) g (λ h. previous-all k g h e) l
+  pub previous_all : (k g : ℕ) → g < k → N g % n ≡ b → g < previous N n b k
+  previous_all zero g l e = absurd (omega arith)
+  previous_all (suc k) g l e =
+      all_step (eqb (N k % n) b) k (previous N n b k) g (λ h. previous_all k g h e) l
       (λ q. eq-eqb _ _ (subst (λ (x : ℕ). N x % n ≡ b) q e))
 
-  pub previous-some : (k : ℕ) → 0 < previous N n b k → N (previous N n b k - 1) % n ≡ b
-  previous-some zero l = absurd (omega arith)
-  previous-some (suc k) l =
-      some_step (λ x. N x % n ≡ b) (eqb (N k % n) b) k (previous N n b k) (λ e. eqb-true _ _ e) (λ h. previous-some k h) l
+  pub previous_some : (k : ℕ) → 0 < previous N n b k → N (previous N n b k - 1) % n ≡ b
+  previous_some zero l = absurd (omega arith)
+  previous_some (suc k) l =
+      some_step (λ x. N x % n ≡ b) (eqb (N k % n) b) k (previous N n b k) (λ e. eqb-true _ _ e) (λ h. previous_some k h) l
 
 pub previous_same : (N M : ℕ → ℕ) (n b k : ℕ) → ((g : ℕ) → g < k → N g ≡ M g) → previous N n b k ≡ previous M n b k
 previous_same N M n b zero h = refl
@@ -40,8 +40,8 @@ previous_same N M n b (suc k) h =
 -- a head that is read where the bucket has a glyph
 pub head_is : (N H : ℕ → ℕ) (m n b : ℕ) → Heads N H m n → 0 < previous N n b m → H b ≡ previous N n b m
 head_is N H m n b h l =
-    let e = previous-some N n b m l in
-    let le = previous-le N n b m in
+    let e = previous_some N n b m l in
+    let le = previous_le N n b m in
     let lt : previous N n b m - 1 < m = omega arith in
     subst (λ (x : ℕ). H x ≡ previous N n x m) e (h (previous N n b m - 1) lt)
 
@@ -51,8 +51,8 @@ no_head N H m n b h out =
     elim (cases_lt 0 (previous N n b m)) [
       | inl l ↦
           let e = head_is N H m n b h l in
-          let le = previous-le N n b m in
-          absurd (out (omega arith) (omega arith) (subst (λ (x : ℕ). N (x - 1) % n ≡ b) (sym e) (previous-some N n b m l)))
+          let le = previous_le N n b m in
+          absurd (out (omega arith) (omega arith) (subst (λ (x : ℕ). N (x - 1) % n ≡ b) (sym e) (previous_some N n b m l)))
       | inr z ↦ omega arith
     ]
 
@@ -69,9 +69,9 @@ pub record Walk (N : ℕ → ℕ) (m n number x : ℕ) : Type 0 where
 
 pub walk_starts : (N : ℕ → ℕ) (m n number : ℕ) → Walk N m n number (previous N n (number % n) m)
 walk_starts N m n number = record {
-  low = previous-le N n (number % n) m;
-  below = λ g l e. previous-all N n (number % n) m g l (ap (λ (x : ℕ). x % n) e);
-  here = previous-some N n (number % n) m;
+  low = previous_le N n (number % n) m;
+  below = λ g l e. previous_all N n (number % n) m g l (ap (λ (x : ℕ). x % n) e);
+  here = previous_some N n (number % n) m;
 }
 
 pub walk_more : (N X : ℕ → ℕ) (m n number x : ℕ) → Nexts N X m n → Walk N m n number x → 0 < x → (N (x - 1) ≡ number → ⊥) → Walk N m n number (X (x - 1))
@@ -79,21 +79,21 @@ walk_more N X m n number x h w l other =
     let low = w.low in
     let e : X (x - 1) ≡ previous N n (number % n) (x - 1) =
     h (x - 1) (omega arith) ∙ ap (λ (b : ℕ). previous N n b (x - 1)) (w.here l) in
-    let le = previous-le N n (number % n) (x - 1) in
+    let le = previous_le N n (number % n) (x - 1) in
     subst (λ (y : ℕ). Walk N m n number y) (sym e) (record {
       low = omega arith;
       below = λ g lg q. elim (cases_eq g (x - 1)) [
         | inl z ↦ absurd (other (subst (λ (y : ℕ). N y ≡ number) z q))
-        | inr ne ↦ let k = w.below g lg q in previous-all N n (number % n) (x - 1) g (omega arith) (ap (λ (y : ℕ). y % n) q)
+        | inr ne ↦ let k = w.below g lg q in previous_all N n (number % n) (x - 1) g (omega arith) (ap (λ (y : ℕ). y % n) q)
       ];
-      here = previous-some N n (number % n) (x - 1);
+      here = previous_some N n (number % n) (x - 1);
     })
 
 pub walk_less : (N X : ℕ → ℕ) (m n number x : ℕ) → Nexts N X m n → Walk N m n number x → 0 < x → X (x - 1) < x
 walk_less N X m n number x h w l =
     let low = w.low in
     let e = h (x - 1) (omega arith) in
-    let le = previous-le N n (N (x - 1) % n) (x - 1) in
+    let le = previous_le N n (N (x - 1) % n) (x - 1) in
     omega arith
 
 -- one glyph more, at place m, in the bucket of its number
@@ -101,8 +101,8 @@ module _ (N H X M G Y : ℕ → ℕ) (m n : ℕ)
     (old : (g : ℕ) → g < m → M g ≡ N g)
     (head : G (M m % n) ≡ m + 1) (heads : (b : ℕ) → b ≢ M m % n → G b ≡ H b)
     (next : Y m ≡ previous N n (M m % n) m) (nexts : (j : ℕ) → j < m → Y j ≡ X j) where
-  pub more-nexts : Nexts N X m n → Nexts M Y (m + 1) n
-  more-nexts h j l = elim (cases_eq j m) [
+  pub more_nexts : Nexts N X m n → Nexts M Y (m + 1) n
+  more_nexts h j l = elim (cases_eq j m) [
     | inl e ↦ subst (λ (x : ℕ). Y x ≡ previous M n (M x % n) x) (sym e) (next ∙ sym (previous_same M N n (M m % n) m old))
     | inr ne ↦
         let lt : j < m = omega arith in
@@ -119,8 +119,8 @@ module _ (N H X M G Y : ℕ → ℕ) (m n : ℕ)
       let a : m + 1 ≡ suc m = omega arith in
       rw a (rw (ne_eqb _ _ e) (previous_same M N n b m old))
 
-  pub more-heads : Heads N H m n → Heads M G (m + 1) n
-  more-heads h g l = elim (cases_eq (M g % n) (M m % n)) [
+  pub more_heads : Heads N H m n → Heads M G (m + 1) n
+  more_heads h g l = elim (cases_eq (M g % n) (M m % n)) [
     | inl e ↦ ap G e ∙ head ∙ sym (top (M g % n) (sym e))
     | inr ne ↦
         let other : g ≢ m = λ q. ne (ap (λ (x : ℕ). M x % n) q) in
@@ -132,14 +132,14 @@ module _ (N H X M G Y : ℕ → ℕ) (m n : ℕ)
 
 -- a write that leaves the chains alone
 module _ (N H X M G Y : ℕ → ℕ) (m n : ℕ) (numbers : (g : ℕ) → g < m → M g ≡ N g) (heads : (b : ℕ) → G b ≡ H b) (nexts : (j : ℕ) → j < m → Y j ≡ X j) where
-  pub kept-heads : Heads N H m n → Heads M G m n
-  kept-heads h g l =
+  pub kept_heads : Heads N H m n → Heads M G m n
+  kept_heads h g l =
       heads (M g % n)
       ∙ subst (λ (x : ℕ). H (x % n) ≡ previous N n (x % n) m) (sym (numbers g l)) (h g l)
       ∙ sym (previous_same M N n (M g % n) m numbers)
 
-  pub kept-nexts : Nexts N X m n → Nexts M Y m n
-  kept-nexts h j l =
+  pub kept_nexts : Nexts N X m n → Nexts M Y m n
+  kept_nexts h j l =
       nexts j l ∙ h j l ∙ ap (λ (x : ℕ). previous N n (x % n) j) (sym (numbers j l)) ∙ sym (previous_same M N n (M j % n) j (λ g k. numbers g (omega arith)))
 
 -- numbers that differ

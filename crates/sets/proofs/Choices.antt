@@ -13,8 +13,8 @@ use Rattle.sets.specs.Cells.{deltas_in, blank_variation}
 use Rattle.sets.specs.Layout.{Stores, account_in, deal, dealt}
 use Rattle.sets.specs.Sound.{Sound, deal_deltas, Chosen, points_size, values_size}
 use Rattle.sets.specs.Views.{all_variations, no_variation}
-use Rattle.sets.proofs.Deal.{dealt-in-use}
-use Rattle.sets.proofs.Shown.{all_is, dealt-long}
+use Rattle.sets.proofs.Deal.{dealt_in_use}
+use Rattle.sets.proofs.Shown.{all_is, dealt_long}
 
 deal_deltas_snoc : (cs : List VariationCell) (c : VariationCell) (ds : List GlyphDelta) →
     deal_deltas (cs ++ (c ∷ [])) ds ≡ deal_deltas cs ds ++ (deltas_of (take c.deltas (drop (deltas_in cs) ds)) ∷ [])
@@ -35,28 +35,28 @@ deal_deltas_more (c ∷ cs) ds es h =
 
 -- one variation more, with its deltas behind those in use
 module _ (cs : List VariationCell) (c : VariationCell) (ds es : List GlyphDelta) (all : deltas_in cs ≡ length ds) (is : c.deltas ≡ length es) where
-  deltas-more : deal_deltas (cs ++ (c ∷ [])) (ds ++ es) ≡ deal_deltas cs ds ++ (deltas_of es ∷ [])
-  deltas-more =
+  deltas_more : deal_deltas (cs ++ (c ∷ [])) (ds ++ es) ≡ deal_deltas cs ds ++ (deltas_of es ∷ [])
+  deltas_more =
       let d : drop (deltas_in cs) (ds ++ es) ≡ es = drop_at ds es (deltas_in cs) (sym all) in
       let t : take c.deltas es ≡ es = ap (λ (n : ℕ). take n es) is ∙ take-length es in
       let e1 = deal_deltas_snoc cs c (ds ++ es) in
       let e2 = deal_deltas_more cs ds es (omega arith) in
       cc
 
-  field-more : {X : Type 0} (f : VariationCell → X) (g : List Delta → X) →
+  field_more : {X : Type 0} (f : VariationCell → X) (g : List Delta → X) →
       map f cs ≡ map g (deal_deltas cs ds) → f c ≡ g (deltas_of es) → map f (cs ++ (c ∷ [])) ≡ map g (deal_deltas (cs ++ (c ∷ [])) (ds ++ es))
-  field-more {X} f g h e =
+  field_more {X} f g h e =
       map-append f cs (c ∷ [])
       ∙ (λ i. h i ++ (e i ∷ []))
       ∙ sym (map-append g (deal_deltas cs ds) (deltas_of es ∷ []))
-      ∙ ap (map g) (sym deltas-more)
+      ∙ ap (map g) (sym deltas_more)
 
 pub chosen_more : (cs : List VariationCell) (c : VariationCell) (ds es : List GlyphDelta) → Chosen cs ds → deltas_in cs ≡ length ds → c.deltas ≡ length es →
     StoredAs (deltas_of es) c.stored → Chosen (cs ++ (c ∷ [])) (ds ++ es)
 chosen_more cs c ds es h all is new = (
-  field-more cs c ds es all is (λ x. x.stored.all) stores_all h.0 new.all_is,
-  field-more cs c ds es all is (λ x. x.stored.points) points_size h.1 new.points_are,
-  field-more cs c ds es all is (λ x. x.stored.values) values_size h.2 new.values_are,
+  field_more cs c ds es all is (λ x. x.stored.all) stores_all h.0 new.all_is,
+  field_more cs c ds es all is (λ x. x.stored.points) points_size h.1 new.points_are,
+  field_more cs c ds es all is (λ x. x.stored.values) values_size h.2 new.values_are,
 )
 
 -- the deltas of the variations that are dealt
@@ -84,10 +84,10 @@ module _ (s : Stores) (h : Sound s) (i : ℕ) (l : i < s.added) where
   -- the deltas of variation i
   deltas_at : get_or (deal_deltas cells used) i [] ≡ shown
   deltas_at =
-      let e = dealt-long s h in
+      let e = dealt_long s h in
       let a = all_is s h in
       ap (λ (ds : List (List Delta)). get_or ds i []) (sym (deltas_dealt s.axes cells (take (3 * s.axes * s.added) s.values) used))
-      ∙ ap (λ (vs : List Variation). get_or (map (λ v. v.deltas) vs) i []) (dealt-in-use s h)
+      ∙ ap (λ (vs : List Variation). get_or (map (λ v. v.deltas) vs) i []) (dealt_in_use s h)
       ∙ get_or-map (λ (v : Variation). v.deltas) (dealt s) i no_variation [] (omega arith)
       ∙ ap (λ (vs : List Variation). (get_or vs i no_variation).deltas) (sym a)
 
@@ -101,8 +101,8 @@ module _ (s : Stores) (h : Sound s) (i : ℕ) (l : i < s.added) where
       ∙ get_or-map g (deal_deltas cells used) i [] (f blank_variation) (omega arith)
       ∙ ap g deltas_at
 
-  pub stored-shown : StoredAs shown (get_or s.variations i blank_variation).stored
-  stored-shown = record {
+  pub stored_shown : StoredAs shown (get_or s.variations i blank_variation).stored
+  stored_shown = record {
     all_is = field_at (λ c. c.stored.all) stores_all h.chosen.0;
     points_are = field_at (λ c. c.stored.points) points_size h.chosen.1;
     values_are = field_at (λ c. c.stored.values) values_size h.chosen.2;

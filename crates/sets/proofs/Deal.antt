@@ -54,8 +54,8 @@ module _ (s : Stores) (h : Sound s) where
   abbrev cs : List VariationCell
   cs = take s.added s.variations
 
-  pub dealt-in-use : deal s.axes cs (take held s.values) (take s.moved s.deltas) ≡ dealt s
-  dealt-in-use =
+  pub dealt_in_use : deal s.axes cs (take held s.values) (take s.moved s.deltas) ≡ dealt s
+  dealt_in_use =
       let c = length-take-le s.added s.variations h.within.1 in
       let e : 3 * s.axes * length cs ≡ held = ap (λ (n : ℕ). 3 * s.axes * n) c in
       let f = length-take-le held s.values h.within.2 in
@@ -96,14 +96,14 @@ module _ (s : Stores) (h : Sound s) (some : 0 < s.begun) where
   pub counts : variations_in (front s) + (last_cell s).variations ≡ s.added
   counts = sym (variations_in_snoc (front s) (last_cell s)) ∙ ap variations_in (sym cells_are) ∙ h.counted.0
 
-  pub length-dealt : length (dealt s) ≡ s.added
-  length-dealt = length_deal s.axes (take s.added s.variations) s.values s.deltas ∙ length-take-le s.added s.variations h.within.1
+  pub length_dealt : length (dealt s) ≡ s.added
+  length_dealt = length_deal s.axes (take s.added s.variations) s.values s.deltas ∙ length-take-le s.added s.variations h.within.1
 
   -- the last glyph has what the first ones leave
-  pub rest-taken : take (last_cell s).variations (drop (variations_in (front s)) (dealt s)) ≡ drop (variations_in (front s)) (dealt s)
-  rest-taken =
+  pub rest_taken : take (last_cell s).variations (drop (variations_in (front s)) (dealt s)) ≡ drop (variations_in (front s)) (dealt s)
+  rest_taken =
       let l = length-drop (variations_in (front s)) (dealt s) in
-      let k = length-dealt in
+      let k = length_dealt in
       let j = counts in
       take_all (last_cell s).variations (drop (variations_in (front s)) (dealt s)) (omega arith)
 
@@ -111,13 +111,13 @@ module _ (s : Stores) (h : Sound s) (some : 0 < s.begun) where
   glyphs_are =
       let e1 = ap (λ (r : List GlyphCell). groups r (dealt s)) cells_are in
       let e2 = groups_snoc (front s) (last_cell s) (dealt s) in
-      let e3 = rest-taken in
+      let e3 = rest_taken in
       cc
 
-  pub last-length : length (last_variations s) ≡ (last_cell s).variations
-  last-length =
+  pub last_length : length (last_variations s) ≡ (last_cell s).variations
+  last_length =
       let l = length-drop (variations_in (front s)) (dealt s) in
-      let k = length-dealt in
+      let k = length_dealt in
       let j = counts in
       omega arith
 
@@ -132,24 +132,24 @@ module _ (s : Stores) (h : Sound s) (some : 0 < s.begun) (any : (last_cell s).va
   place : variations_in (front s) ≡ at
   place = let j = counts s h some in omega arith
 
-  first-is : last_variations s ≡ get_or (dealt s) at no_variation ∷ drop (suc at) (dealt s)
-  first-is =
+  first_is : last_variations s ≡ get_or (dealt s) at no_variation ∷ drop (suc at) (dealt s)
+  first_is =
       let j = counts s h some in
-      let d = length-dealt s h some in
+      let d = length_dealt s h some in
       ap (λ n. drop n (dealt s)) place ∙ drop-cons (dealt s) at no_variation (omega arith)
 
-  first-deltas : length (get_or (dealt s) at no_variation).deltas ≡ (get_or s.variations at blank_variation).deltas
-  first-deltas =
+  first_deltas : length (get_or (dealt s) at no_variation).deltas ≡ (get_or s.variations at blank_variation).deltas
+  first_deltas =
       let j = counts s h some in
       let t = length-take-le s.added s.variations h.within.1 in
       length_deltas s.axes (take s.added s.variations) s.values s.deltas at no_variation blank_variation (omega (arith, h.counted.1, h.within.3)) (omega arith)
       ∙ ap (λ (c : VariationCell). c.deltas) (get_or-take s.added s.variations at blank_variation (omega arith))
 
-  pub other-is : (n : ℕ) → not (eqb (get_or s.variations at blank_variation).deltas n) ≡ other_count (last_variations s) n
-  other-is n = ap (λ (x : ℕ). not (eqb x n)) (sym first-deltas) ∙ ap (λ (vs : List Variation). other_count vs n) (sym first-is)
+  pub other_is : (n : ℕ) → not (eqb (get_or s.variations at blank_variation).deltas n) ≡ other_count (last_variations s) n
+  other_is n = ap (λ (x : ℕ). not (eqb x n)) (sym first_deltas) ∙ ap (λ (vs : List Variation). other_count vs n) (sym first_is)
 
 pub other_none : (s : Stores) → Sound s → 0 < s.begun → (last_cell s).variations ≡ 0 → (n : ℕ) → false ≡ other_count (last_variations s) n
-other_none s h some z n = ap (λ (vs : List Variation). other_count vs n) (sym (empty (last_variations s) (last-length s h some ∙ z)))
+other_none s h some z n = ap (λ (vs : List Variation). other_count vs n) (sym (empty (last_variations s) (last_length s h some ∙ z)))
   where
     empty : (vs : List Variation) → length vs ≡ 0 → vs ≡ []
     empty [] e = refl

@@ -11,9 +11,9 @@ use Rattle.sets.specs.Layout.{Stores}
 use Rattle.sets.specs.Sound.{Sound, Chained, Firsts, Starts, Chosen, ShortCells}
 use Rattle.sets.specs.Writing.{last_cell, front, Admitted}
 use Rattle.sets.proofs.Behind.{kept_starts}
-use Rattle.sets.proofs.Chains.{kept-heads, kept-nexts, kept_apart, kept_low}
+use Rattle.sets.proofs.Chains.{kept_heads, kept_nexts, kept_apart, kept_low}
 use Rattle.sets.proofs.Deal.{counts}
-use Rattle.sets.proofs.Lists.{variations_in_snoc, field-kept, field-same, field-other}
+use Rattle.sets.proofs.Lists.{variations_in_snoc, field_kept, field_same, field_other}
 
 -- the cell of the last glyph, with one variation more
 abbrev pub one_more : Stores → GlyphCell
@@ -54,51 +54,51 @@ module _ (s : Stores) (t n : ℕ) (r : StoredPoints) (h : Sound s) (room : Admit
   in_cells : s.begun - 1 < length s.glyphs
   in_cells = let b = room.begun in omega (arith, h.within.0)
 
-  pub counted-cells : take s.begun cells ≡ front s ++ (one_more s ∷ [])
-  counted-cells =
+  pub counted_cells : take s.begun cells ≡ front s ++ (one_more s ∷ [])
+  counted_cells =
       let b = room.begun in
       let e : suc (s.begun - 1) ≡ s.begun = omega arith in
       subst (λ m. take m cells ≡ front s ++ (one_more s ∷ [])) e (take-suc-set s.glyphs (s.begun - 1) (one_more s) in_cells)
 
-  pub counted-variations : take (s.added + 1) (set s.variations s.added cell) ≡ take s.added s.variations ++ (cell ∷ [])
-  counted-variations = rw add-one (take-suc-set s.variations s.added cell room.variations)
+  pub counted_variations : take (s.added + 1) (set s.variations s.added cell) ≡ take s.added s.variations ++ (cell ∷ [])
+  counted_variations = rw add-one (take-suc-set s.variations s.added cell room.variations)
 
   kept : (field : GlyphCell → ℕ) → field (one_more s) ≡ field (last_cell s) → (i : ℕ) → field (get_or cells i blank_glyph) ≡ field (get_or s.glyphs i blank_glyph)
-  kept field e = field-kept field s.glyphs (s.begun - 1) (one_more s) in_cells e
+  kept field e = field_kept field s.glyphs (s.begun - 1) (one_more s) in_cells e
 
-  counted-firsts : Firsts s.begun cells
-  counted-firsts i l =
+  counted_firsts : Firsts s.begun cells
+  counted_firsts i l =
       kept (λ c. c.first) refl i ∙ h.placed.0 i l ∙ ap variations_in (sym (take-set-le i s.glyphs (s.begun - 1) (one_more s) (omega arith)))
 
-  counted-starts : Starts (s.added + 1) (set s.variations s.added cell)
-  counted-starts i l = elim (cases_eq i s.added) [
+  counted_starts : Starts (s.added + 1) (set s.variations s.added cell)
+  counted_starts i l = elim (cases_eq i s.added) [
     | inl e ↦ subst (λ (x : ℕ). start_at (set s.variations s.added cell) x ≡ deltas_in (take x (set s.variations s.added cell))) (sym e)
         (ap (λ (c : VariationCell). c.start) (get_or-set_same s.variations s.added cell blank_variation room.variations)
         ∙ sym h.counted.1 ∙ ap deltas_in (sym (take-set-le s.added s.variations s.added cell (omega arith))))
     | inr ne ↦ kept_starts s.variations s.added cell h.placed.1 i (omega arith)
   ]
 
-  counted-chained : Chained s.begun cells
-  counted-chained =
+  counted_chained : Chained s.begun cells
+  counted_chained =
       subst (λ (m : ℕ). Heads (number_at cells) (head_at cells) s.begun m × Nexts (number_at cells) (next_at cells) s.begun m) (sym (length-set s.glyphs (s.begun - 1) (one_more s))) (
-        kept-heads (number_at s.glyphs) (head_at s.glyphs) (next_at s.glyphs) (number_at cells) (head_at cells) (next_at cells) s.begun (length s.glyphs)
+        kept_heads (number_at s.glyphs) (head_at s.glyphs) (next_at s.glyphs) (number_at cells) (head_at cells) (next_at cells) s.begun (length s.glyphs)
             (λ g _. kept (λ c. c.number) refl g) (kept (λ c. c.head) refl) (λ g _. kept (λ c. c.next) refl g) h.chained.0,
-        kept-nexts (number_at s.glyphs) (head_at s.glyphs) (next_at s.glyphs) (number_at cells) (head_at cells) (next_at cells) s.begun (length s.glyphs)
+        kept_nexts (number_at s.glyphs) (head_at s.glyphs) (next_at s.glyphs) (number_at cells) (head_at cells) (next_at cells) s.begun (length s.glyphs)
             (λ g _. kept (λ c. c.number) refl g) (kept (λ c. c.head) refl) (λ g _. kept (λ c. c.next) refl g) h.chained.1,
       )
 
-  counted-few : (i : ℕ) → i < s.begun → count_at cells i ≤ 4095
-  counted-few i l = elim (cases_eq i (s.begun - 1)) [
+  counted_few : (i : ℕ) → i < s.begun → count_at cells i ≤ 4095
+  counted_few i l = elim (cases_eq i (s.begun - 1)) [
     | inl e ↦
-        let z : count_at cells i ≡ (last_cell s).variations + 1 = ap (λ (k : ℕ). count_at cells k) e ∙ field-same (λ c. c.variations) s.glyphs (s.begun - 1) (one_more s) in_cells in
+        let z : count_at cells i ≡ (last_cell s).variations + 1 = ap (λ (k : ℕ). count_at cells k) e ∙ field_same (λ c. c.variations) s.glyphs (s.begun - 1) (one_more s) in_cells in
         omega (arith, room.few_variations)
     | inr ne ↦
-        let o = field-other (λ c. c.variations) s.glyphs (s.begun - 1) (one_more s) i ne in
+        let o = field_other (λ c. c.variations) s.glyphs (s.begun - 1) (one_more s) i ne in
         omega (arith, h.few.0 i l)
   ]
 
-  deltas-few : (i : ℕ) → i < s.added + 1 → deltas_at (set s.variations s.added cell) i ≤ 32767
-  deltas-few i l = elim (cases_eq i s.added) [
+  deltas_few : (i : ℕ) → i < s.added + 1 → deltas_at (set s.variations s.added cell) i ≤ 32767
+  deltas_few i l = elim (cases_eq i s.added) [
     | inl e ↦
         let z : deltas_at (set s.variations s.added cell) i ≡ n =
         ap (λ (k : ℕ). deltas_at (set s.variations s.added cell) k) e ∙ ap (λ (c : VariationCell). c.deltas) (get_or-set_same s.variations s.added cell blank_variation room.variations) in
@@ -109,9 +109,9 @@ module _ (s : Stores) (t n : ℕ) (r : StoredPoints) (h : Sound s) (room : Admit
         omega (arith, h.few.1 i q)
   ]
 
-  pub counted-sound : Chosen (take (s.added + 1) (set s.variations s.added cell)) (take (s.moved + n) s.deltas) →
+  pub counted_sound : Chosen (take (s.added + 1) (set s.variations s.added cell)) (take (s.moved + n) s.deltas) →
       ShortCells (take (3 * s.axes * (s.added + 1)) s.values) (take (s.moved + n) s.deltas) → Sound (counted s n r)
-  counted-sound chosen short =
+  counted_sound chosen short =
       let l1 = length-set s.glyphs (s.begun - 1) (one_more s) in
       let l2 = length-set s.variations s.added cell in
       let m = values_more s in
@@ -120,14 +120,14 @@ module _ (s : Stores) (t n : ℕ) (r : StoredPoints) (h : Sound s) (room : Admit
       let d1 = deltas_in_snoc (take s.added s.variations) cell in
       record {
         within = (omega (arith, h.within.0), omega (arith, room.variations), omega (arith, room.values), omega (arith, room.deltas));
-        counted = (ap variations_in counted-cells ∙ v1 ∙ omega arith, ap deltas_in counted-variations ∙ d1 ∙ omega (arith, h.counted.1));
-        placed = (counted-firsts, counted-starts);
-        chained = counted-chained;
+        counted = (ap variations_in counted_cells ∙ v1 ∙ omega arith, ap deltas_in counted_variations ∙ d1 ∙ omega (arith, h.counted.1));
+        placed = (counted_firsts, counted_starts);
+        chained = counted_chained;
         numbered = (
           kept_apart (number_at s.glyphs) (number_at cells) s.begun (λ g _. kept (λ c. c.number) refl g) h.numbered.0,
           kept_low (number_at s.glyphs) (number_at cells) s.begun (λ g _. kept (λ c. c.number) refl g) h.numbered.1,
         );
-        few = (counted-few, deltas-few);
+        few = (counted_few, deltas_few);
         chosen = chosen;
         short = short;
       }

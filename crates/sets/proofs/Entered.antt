@@ -15,9 +15,9 @@ use Rattle.sets.specs.Given.{part_of, given, variation_call}
 use Rattle.sets.specs.Layout.{Stores, account_in, lent_in, dealt, deal, groups, read, tents_of}
 use Rattle.sets.specs.Sound.{Sound}
 use Rattle.sets.specs.Writing.{last_cell, front, Admitted}
-use Rattle.sets.proofs.Deal.{deal_snoc, deal_more, groups_more, add_snoc, counts, length-dealt, glyphs_are}
-use Rattle.sets.proofs.Enter.{values_more, counted, one_more, cell_for, counted-cells, counted-variations}
-use Rattle.sets.proofs.Filled.{filled, filled-sound, filled-room, values_are, deltas-are, values_length, deltas-length, front_length, moved_length}
+use Rattle.sets.proofs.Deal.{deal_snoc, deal_more, groups_more, add_snoc, counts, length_dealt, glyphs_are}
+use Rattle.sets.proofs.Enter.{values_more, counted, one_more, cell_for, counted_cells, counted_variations}
+use Rattle.sets.proofs.Filled.{filled, filled_sound, filled_room, values_are, deltas_are, values_length, deltas_length, front_length, moved_length}
 use Rattle.sets.proofs.Lists.{groups_snoc}
 
 tents_are : (ts : List Tent) → tents_of (map (part_of Peak) ts) (map (part_of Start) ts) (map (part_of End) ts) ≡ map tent (map given ts)
@@ -57,14 +57,14 @@ module _ (s : Stores) (ts : List Tent) (ds : List GlyphDelta) (h : Sound s) (r :
   abbrev new : Variation
   new = variation_of (map given ts) (deltas_of ds)
 
-  cells-length : length cs ≡ s.added
-  cells-length = length-take-le s.added s.variations h.within.1
+  cells_length : length cs ≡ s.added
+  cells_length = length-take-le s.added s.variations h.within.1
 
   start_is : 3 * s.axes * length cs ≡ at
-  start_is = ap (λ n. 3 * s.axes * n) cells-length
+  start_is = ap (λ n. 3 * s.axes * n) cells_length
 
-  dealt-front : (xs : List ℤ) (ms : List GlyphDelta) → deal s.axes cs (take at s.values ++ xs) (take s.moved s.deltas ++ ms) ≡ dealt s
-  dealt-front xs ms =
+  dealt_front : (xs : List ℤ) (ms : List GlyphDelta) → deal s.axes cs (take at s.values ++ xs) (take s.moved s.deltas ++ ms) ≡ dealt s
+  dealt_front xs ms =
       let a1 = start_is in
       let a2 = front_length s ts ds h room in
       let a3 = moved_length s ts ds h room in
@@ -85,45 +85,45 @@ module _ (s : Stores) (ts : List Tent) (ds : List GlyphDelta) (h : Sound s) (r :
       let v : drop (3 * s.axes * length cs) (filled s ts ds).values ≡ ((ps ++ ss) ++ es) ++ drop (at + (length ts + length ts + length ts)) s.values =
       ap (drop (3 * s.axes * length cs)) (values_are s ts ds h room) ∙ drop_at (take at s.values) _ (3 * s.axes * length cs) (front_length s ts ds h room ∙ sym start_is) in
       let d : drop (deltas_in cs) (filled s ts ds).deltas ≡ ds ++ drop (s.moved + length ds) s.deltas =
-      ap (drop (deltas_in cs)) (deltas-are s ts ds h room) ∙ drop_at (take s.moved s.deltas) _ (deltas_in cs) (moved_length s ts ds h room ∙ sym h.counted.1) in
+      ap (drop (deltas_in cs)) (deltas_are s ts ds h room) ∙ drop_at (take s.moved s.deltas) _ (deltas_in cs) (moved_length s ts ds h room ∙ sym h.counted.1) in
       ap (λ (x : List ℤ). read s.axes (length ds) x (drop (deltas_in cs) (filled s ts ds).deltas)) v
       ∙ ap (λ (y : List GlyphDelta). read s.axes (length ds) (((ps ++ ss) ++ es) ++ drop (at + (length ts + length ts + length ts)) s.values) y) d
       ∙ read_is s.axes ps ss es _ ds _ (lp ∙ room.tents) (ls ∙ room.tents) (le ∙ room.tents)
       ∙ ap (λ (r : List account.Tent). record { tents = r; deltas = deltas_of ds }) (tents_are ts)
 
   -- the variations in the stores, with one more
-  pub dealt-more : dealt (counted (filled s ts ds) (length ds) r) ≡ dealt s ++ (new ∷ [])
-  dealt-more =
-      ap (λ (c : List VariationCell). deal s.axes c (filled s ts ds).values (filled s ts ds).deltas) (counted-variations (filled s ts ds) (length ts) (length ds) r (filled-sound s ts ds h room) (filled-room s ts ds h room))
+  pub dealt_more : dealt (counted (filled s ts ds) (length ds) r) ≡ dealt s ++ (new ∷ [])
+  dealt_more =
+      ap (λ (c : List VariationCell). deal s.axes c (filled s ts ds).values (filled s ts ds).deltas) (counted_variations (filled s ts ds) (length ts) (length ds) r (filled_sound s ts ds h room) (filled_room s ts ds h room))
       ∙ deal_snoc s.axes cs (cell_for s (length ds) r) (filled s ts ds).values (filled s ts ds).deltas
       ∙ ap (λ (v : Variation). deal s.axes cs (filled s ts ds).values (filled s ts ds).deltas ++ (v ∷ [])) new_is
       ∙ ap (λ (x : List ℤ). deal s.axes cs x (filled s ts ds).deltas ++ (new ∷ [])) (values_are s ts ds h room)
-      ∙ ap (λ (y : List GlyphDelta). deal s.axes cs (take at s.values ++ (((ps ++ ss) ++ es) ++ drop (at + (length ts + length ts + length ts)) s.values)) y ++ (new ∷ [])) (deltas-are s ts ds h room)
-      ∙ ap (λ (vs : List Variation). vs ++ (new ∷ [])) (dealt-front _ _)
+      ∙ ap (λ (y : List GlyphDelta). deal s.axes cs (take at s.values ++ (((ps ++ ss) ++ es) ++ drop (at + (length ts + length ts + length ts)) s.values)) y ++ (new ∷ [])) (deltas_are s ts ds h room)
+      ∙ ap (λ (vs : List Variation). vs ++ (new ∷ [])) (dealt_front _ _)
 
-  pub glyphs-more : (account_in (counted (filled s ts ds) (length ds) r)).glyphs ≡ add (new) (account_in s).glyphs
-  glyphs-more =
+  pub glyphs_more : (account_in (counted (filled s ts ds) (length ds) r)).glyphs ≡ add (new) (account_in s).glyphs
+  glyphs_more =
       let c = counts s h room.begun in
-      let l = length-dealt s h room.begun in
+      let l = length_dealt s h room.begun in
       let ld = length-drop (variations_in (front s)) (dealt s) in
       let la = length-append (drop (variations_in (front s)) (dealt s)) (new ∷ []) in
-      let e1 = counted-cells (filled s ts ds) (length ts) (length ds) r (filled-sound s ts ds h room) (filled-room s ts ds h room) in
+      let e1 = counted_cells (filled s ts ds) (length ts) (length ds) r (filled_sound s ts ds h room) (filled_room s ts ds h room) in
       let e2 = groups_snoc (front s) (one_more s) (dealt s ++ (new ∷ [])) in
       let e3 = groups_more (front s) (dealt s) (new ∷ []) (omega arith) in
       let e4 = drop-append-le (variations_in (front s)) (dealt s) (new ∷ []) (omega arith) in
       let e5 = take_all ((last_cell s).variations + 1) (drop (variations_in (front s)) (dealt s) ++ (new ∷ [])) (omega (arith, la, ld)) in
       let e6 = glyphs_are s h room.begun in
       let e7 = add_snoc (new) (groups (front s) (dealt s)) (record { number = (last_cell s).number; variations = drop (variations_in (front s)) (dealt s) }) in
-      let e8 = dealt-more in
+      let e8 = dealt_more in
       cc
 
   pub entered : account_in (counted (filled s ts ds) (length ds) r) ≡ accepted (account_in s) (variation_call ts ds)
   entered =
-      let g = glyphs-more in
+      let g = glyphs_more in
       let l1 = length-set s.glyphs (s.begun - 1) (one_more s) in
       let l2 = length-set s.variations s.added (cell_for s (length ds) r) in
       let l3 = values_length s ts ds h room in
-      let l4 = deltas-length s ts ds h room in
+      let l4 = deltas_length s ts ds h room in
       let m = values_more s in
       let f1 : length (set s.glyphs (s.begun - 1) (one_more s)) - s.begun ≡ length s.glyphs - s.begun = omega arith in
       let f2 : length (set s.variations s.added (cell_for s (length ds) r)) - (s.added + 1) ≡ length s.variations - s.added - 1 = omega arith in
@@ -132,10 +132,10 @@ module _ (s : Stores) (ts : List Tent) (ds : List GlyphDelta) (h : Sound s) (r :
       let f4 : length (filled s ts ds).deltas - (s.moved + length ds) ≡ length s.deltas - s.moved - length (deltas_of ds) = omega arith in
       cc
 
-  pub entered-lent : lent_in (counted (filled s ts ds) (length ds) r) ≡ lent_in s
-  entered-lent =
+  pub entered_lent : lent_in (counted (filled s ts ds) (length ds) r) ≡ lent_in s
+  entered_lent =
       let l1 = length-set s.glyphs (s.begun - 1) (one_more s) in
       let l2 = length-set s.variations s.added (cell_for s (length ds) r) in
       let l3 = values_length s ts ds h room in
-      let l4 = deltas-length s ts ds h room in
+      let l4 = deltas_length s ts ds h room in
       cc

@@ -10,14 +10,14 @@ use Rattle.sets.specs.Layout.{groups}
 
 -- one field of every cell, after a write of one cell
 module _ (field : GlyphCell → ℕ) (cells : List GlyphCell) (i : ℕ) (c : GlyphCell) where
-  pub field-same : i < length cells → field (get_or (set cells i c) i blank_glyph) ≡ field c
-  field-same l = ap field (get_or-set_same cells i c blank_glyph l)
+  pub field_same : i < length cells → field (get_or (set cells i c) i blank_glyph) ≡ field c
+  field_same l = ap field (get_or-set_same cells i c blank_glyph l)
 
-  pub field-other : (k : ℕ) → k ≢ i → field (get_or (set cells i c) k blank_glyph) ≡ field (get_or cells k blank_glyph)
-  field-other k ne = ap field (get_or-set_other cells i k c blank_glyph ne)
+  pub field_other : (k : ℕ) → k ≢ i → field (get_or (set cells i c) k blank_glyph) ≡ field (get_or cells k blank_glyph)
+  field_other k ne = ap field (get_or-set_other cells i k c blank_glyph ne)
 
-  pub field-kept : i < length cells → field c ≡ field (get_or cells i blank_glyph) → (k : ℕ) → field (get_or (set cells i c) k blank_glyph) ≡ field (get_or cells k blank_glyph)
-  field-kept l e k = elim (cases_eq k i) [ inl q ↦ rw q (field-same l ∙ e) | inr ne ↦ field-other k ne ]
+  pub field_kept : i < length cells → field c ≡ field (get_or cells i blank_glyph) → (k : ℕ) → field (get_or (set cells i c) k blank_glyph) ≡ field (get_or cells k blank_glyph)
+  field_kept l e k = elim (cases_eq k i) [ inl q ↦ rw q (field_same l ∙ e) | inr ne ↦ field_other k ne ]
 
 -- a glyph is begun exactly if its number is that of a cell in use
 pub begun_at : (n m : ℕ) (cs : List GlyphCell) (vs : List Variation) (i : ℕ) → m ≤ length cs → i < m → number_at cs i ≡ n → true ≡ begun n (groups (take m cs) vs)

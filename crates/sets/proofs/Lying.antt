@@ -7,7 +7,7 @@ use Rattle.sets.specs.Layout.{Stores, account_in, dealt, groups}
 use Rattle.sets.specs.Sound.{Sound}
 use Rattle.sets.specs.Views.{all_variations, no_glyph, Lies}
 use Rattle.sets.proofs.Full.{glyphs_long}
-use Rattle.sets.proofs.Shown.{all_is, all_long, dealt-long, variations_to}
+use Rattle.sets.proofs.Shown.{all_is, all_long, dealt_long, variations_to}
 
 behind_at : (cs : List GlyphCell) (vs : List Variation) (p : ℕ) → variations_in cs ≤ length vs → length (all_variations (take p (groups cs vs))) ≡ variations_in (take p cs)
 behind_at [] vs zero h = refl
@@ -30,23 +30,23 @@ module _ (s : Stores) (h : Sound s) (p : ℕ) (l : p < s.begun) where
   abbrev used : List GlyphCell
   used = take s.begun s.glyphs
 
-  used-long : length used ≡ s.begun
-  used-long = length-take-le s.begun s.glyphs h.within.0
+  used_long : length used ≡ s.begun
+  used_long = length-take-le s.begun s.glyphs h.within.0
 
   same_at : get_or used p blank_glyph ≡ get_or s.glyphs p blank_glyph
   same_at = get_or-take s.begun s.glyphs p blank_glyph l
 
-  first-is : variations_in (take p used) ≡ first_at s.glyphs p
-  first-is = ap variations_in (take-take p s.begun s.glyphs (omega arith)) ∙ sym (h.placed.0 p l)
+  first_is : variations_in (take p used) ≡ first_at s.glyphs p
+  first_is = ap variations_in (take-take p s.begun s.glyphs (omega arith)) ∙ sym (h.placed.0 p l)
 
   pub lies : Lies (account_in s).glyphs p (record { first = first_at s.glyphs p; count = count_at s.glyphs p })
   lies =
-      let ll = used-long in
-      let f = first-is in
+      let ll = used_long in
+      let f = first_is in
       let ce = ap (λ (c : GlyphCell). c.variations) same_at in
       let all = all_long s h in
       let long = glyphs_long s h in
-      let dl = dealt-long s h in
+      let dl = dealt_long s h in
       let to = variations_to used p (omega arith) in
       record {
         inside = omega arith;

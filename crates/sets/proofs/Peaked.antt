@@ -44,15 +44,15 @@ rows_are a (c ∷ cs) xs ds h =
     λ i. e i ∷ r i
 
 module _ (s : Stores) (h : Sound s) where
-  pub peaks-are : rows s.axes s.values s.added ≡ peaks_seen (account_in s).glyphs
-  peaks-are =
+  pub peaks_are : rows s.axes s.values s.added ≡ peaks_seen (account_in s).glyphs
+  peaks_are =
       let l = length-take-le s.added s.variations h.within.1 in
       subst (λ (n : ℕ). rows s.axes s.values n ≡ map peak (dealt s)) l
       (rows_are s.axes (take s.added s.variations) s.values s.deltas (subst (λ (n : ℕ). 3 * s.axes * n ≤ length s.values) (sym l) h.within.2))
       ∙ ap (λ (vs : List Variation). map peak vs) (sym (all_is s h)) ∙ sym (seen_is (account_in s).glyphs)
 
   pub peaks_long : s.added ≡ length (peaks_seen (account_in s).glyphs)
-  peaks_long = sym (length_rows s.axes s.values s.added) ∙ ap length peaks-are
+  peaks_long = sym (length_rows s.axes s.values s.added) ∙ ap length peaks_are
 
 rows_taken : (a : ℕ) (xs : List ℤ) (n m : ℕ) → 3 * a * n ≤ m → rows a (take m xs) n ≡ rows a xs n
 rows_taken a xs zero m h = refl
@@ -70,11 +70,11 @@ module _ (s : Stores) (h : Sound s) where
   used = take (3 * s.axes * s.added) s.values
 
   -- the values in use, by the number of variations
-  pub used-long : length used ≡ 3 * s.axes * variation_count (account_in s).glyphs
-  used-long = length-take-le (3 * s.axes * s.added) s.values h.within.2 ∙ ap (λ (n : ℕ). 3 * s.axes * n) (count_is s h)
+  pub used_long : length used ≡ 3 * s.axes * variation_count (account_in s).glyphs
+  used_long = length-take-le (3 * s.axes * s.added) s.values h.within.2 ∙ ap (λ (n : ℕ). 3 * s.axes * n) (count_is s h)
 
-  pub used-rows : rows s.axes used (variation_count (account_in s).glyphs) ≡ peaks_seen (account_in s).glyphs
-  used-rows =
+  pub used_rows : rows s.axes used (variation_count (account_in s).glyphs) ≡ peaks_seen (account_in s).glyphs
+  used_rows =
       ap (λ (n : ℕ). rows s.axes used n) (sym (count_is s h))
       ∙ rows_taken s.axes s.values s.added (3 * s.axes * s.added) (omega arith)
-      ∙ peaks-are s h
+      ∙ peaks_are s h

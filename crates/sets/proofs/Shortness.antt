@@ -11,7 +11,7 @@ use Rattle.sets.specs.declared.cells.GlyphCell.{GlyphCell}
 use Rattle.sets.specs.declared.cells.VariationCell.{VariationCell}
 use Rattle.sets.specs.Layout.{Stores, tents_of, deal, dealt, groups, account_in}
 use Rattle.sets.specs.Sound.{Sound, short_value, short_delta}
-use Rattle.sets.proofs.Deal.{dealt-in-use}
+use Rattle.sets.proofs.Deal.{dealt_in_use}
 use Rattle.sets.proofs.Lists.{all_true, true_all}
 
 abbrev ShortCell : GlyphDelta → Type 0
@@ -53,5 +53,5 @@ short_groups (c ∷ cs) vs h = (All-take ShortVariation c.variations vs h, short
 pub short_set : (s : Stores) → Sound s → ShortSet (account_in s).glyphs
 short_set s h =
     short_groups (take s.begun s.glyphs) (dealt s)
-    (subst (λ (vs : List Variation). All ShortVariation vs) (dealt-in-use s h)
+    (subst (λ (vs : List Variation). All ShortVariation vs) (dealt_in_use s h)
     (short_deal s.axes (take s.added s.variations) (take (3 * s.axes * s.added) s.values) (take s.moved s.deltas) (tested_values _ h.short.0) (tested_deltas _ h.short.1)))

@@ -30,14 +30,14 @@ flat_groups (c ∷ cs) vs e =
     ap (λ (r : List Variation). take c.variations vs ++ r) (flat_groups cs (drop c.variations vs) (omega arith)) ∙ take-append-drop c.variations vs
 
 module _ (s : Stores) (h : Sound s) where
-  pub dealt-long : length (dealt s) ≡ s.added
-  dealt-long = length_deal s.axes (take s.added s.variations) s.values s.deltas ∙ length-take-le s.added s.variations h.within.1
+  pub dealt_long : length (dealt s) ≡ s.added
+  dealt_long = length_deal s.axes (take s.added s.variations) s.values s.deltas ∙ length-take-le s.added s.variations h.within.1
 
   pub all_is : all_variations (account_in s).glyphs ≡ dealt s
-  all_is = flat_groups (take s.begun s.glyphs) (dealt s) (h.counted.0 ∙ sym dealt-long)
+  all_is = flat_groups (take s.begun s.glyphs) (dealt s) (h.counted.0 ∙ sym dealt_long)
 
   pub all_long : length (all_variations (account_in s).glyphs) ≡ s.added
-  all_long = ap length all_is ∙ dealt-long
+  all_long = ap length all_is ∙ dealt_long
 
 deal_at : (a : ℕ) (cs : List VariationCell) (xs : List ℤ) (ds : List GlyphDelta) (i : ℕ) → i < length cs →
     get_or (deal a cs xs ds) i no_variation ≡ read a (get_or cs i blank_variation).deltas (drop (3 * a * i) xs) (drop (deltas_in (take i cs)) ds)
@@ -60,26 +60,26 @@ module _ (s : Stores) (h : Sound s) (i : ℕ) (l : i < s.added) where
   abbrev cells : List VariationCell
   cells = take s.added s.variations
 
-  cells-long : length cells ≡ s.added
-  cells-long = length-take-le s.added s.variations h.within.1
+  cells_long : length cells ≡ s.added
+  cells_long = length-take-le s.added s.variations h.within.1
 
-  same-cell : get_or cells i blank_variation ≡ cell
-  same-cell = get_or-take s.added s.variations i blank_variation l
+  same_cell : get_or cells i blank_variation ≡ cell
+  same_cell = get_or-take s.added s.variations i blank_variation l
 
   start_is : deltas_in (take i cells) ≡ cell.start
   start_is = ap deltas_in (take-take i s.added s.variations (omega arith)) ∙ sym (h.placed.1 i l)
 
-  pub values-fit : 3 * s.axes * i + 3 * s.axes ≤ length s.values
-  values-fit =
+  pub values_fit : 3 * s.axes * i + 3 * s.axes ≤ length s.values
+  values_fit =
       let m : 3 * s.axes * suc i ≡ 3 * s.axes * i + 3 * s.axes = mul-suc (3 * s.axes) i ∙ omega arith in
       let k : 3 * s.axes * suc i ≤ 3 * s.axes * s.added = mul-le-mul (omega arith) l in
       omega (arith, h.within.2)
 
   pub deltas_fit : cell.start + cell.deltas ≤ length s.deltas
   deltas_fit =
-      let ll = cells-long in
+      let ll = cells_long in
       let k = deltas_to cells i (omega arith) in
-      let e = ap (λ (c : VariationCell). c.deltas) same-cell in
+      let e = ap (λ (c : VariationCell). c.deltas) same_cell in
       let f = start_is in
       omega (arith, h.counted.1, h.within.3)
 
@@ -87,12 +87,12 @@ module _ (s : Stores) (h : Sound s) (i : ℕ) (l : i < s.added) where
   in_cells = omega (arith, h.within.1)
 
   -- the variation, read at its places
-  pub shown-is : get_or (all_variations (account_in s).glyphs) i no_variation ≡ read s.axes cell.deltas (drop (3 * s.axes * i) s.values) (drop cell.start s.deltas)
-  shown-is =
-      let ll = cells-long in
+  pub shown_is : get_or (all_variations (account_in s).glyphs) i no_variation ≡ read s.axes cell.deltas (drop (3 * s.axes * i) s.values) (drop cell.start s.deltas)
+  shown_is =
+      let ll = cells_long in
       ap (λ (vs : List Variation). get_or vs i no_variation) (all_is s h)
       ∙ deal_at s.axes cells s.values s.deltas i (omega arith)
-      ∙ ap (λ (c : VariationCell). read s.axes c.deltas (drop (3 * s.axes * i) s.values) (drop (deltas_in (take i cells)) s.deltas)) same-cell
+      ∙ ap (λ (c : VariationCell). read s.axes c.deltas (drop (3 * s.axes * i) s.values) (drop (deltas_in (take i cells)) s.deltas)) same_cell
       ∙ ap (λ (n : ℕ). read s.axes cell.deltas (drop (3 * s.axes * i) s.values) (drop n s.deltas)) start_is
 
 -- peaks, starts and ends of as many tents
@@ -119,54 +119,54 @@ module _ (s : Stores) (h : Sound s) (i at : ℕ) (l : i < s.added) (is : at ≡ 
   abbrev row : ℕ → List ℤ
   row k = take s.axes (drop k s.values)
 
-  row-long : (k : ℕ) → k + s.axes ≤ length s.values → length (row k) ≡ s.axes
-  row-long k q = let d = length-drop k s.values in length-take-le s.axes (drop k s.values) (omega arith)
+  row_long : (k : ℕ) → k + s.axes ≤ length s.values → length (row k) ≡ s.axes
+  row_long k q = let d = length-drop k s.values in length-take-le s.axes (drop k s.values) (omega arith)
 
   abbrev shown : Variation
   shown = get_or (all_variations (account_in s).glyphs) i no_variation
 
-  shown-rows : shown ≡ record { tents = tents_of (row at) (row (at + s.axes)) (row (at + 2 * s.axes)); deltas = deltas_of (take (get_or s.variations i blank_variation).deltas (drop (get_or s.variations i blank_variation).start s.deltas)) }
-  shown-rows =
-      rw (is, ← drop-drop s.axes (3 * s.axes * i) s.values, ← drop-drop (2 * s.axes) (3 * s.axes * i) s.values) (shown-is s h i l)
+  shown_rows : shown ≡ record { tents = tents_of (row at) (row (at + s.axes)) (row (at + 2 * s.axes)); deltas = deltas_of (take (get_or s.variations i blank_variation).deltas (drop (get_or s.variations i blank_variation).start s.deltas)) }
+  shown_rows =
+      rw (is, ← drop-drop s.axes (3 * s.axes * i) s.values, ← drop-drop (2 * s.axes) (3 * s.axes * i) s.values) (shown_is s h i l)
 
-  starts-long : length (row at) ≡ length (row (at + s.axes))
-  starts-long = let v = values-fit s h i l in row-long at (omega arith) ∙ sym (row-long (at + s.axes) (omega arith))
+  starts_long : length (row at) ≡ length (row (at + s.axes))
+  starts_long = let v = values_fit s h i l in row_long at (omega arith) ∙ sym (row_long (at + s.axes) (omega arith))
 
-  ends-long : length (row at) ≡ length (row (at + 2 * s.axes))
-  ends-long = let v = values-fit s h i l in row-long at (omega arith) ∙ sym (row-long (at + 2 * s.axes) (omega arith))
+  ends_long : length (row at) ≡ length (row (at + 2 * s.axes))
+  ends_long = let v = values_fit s h i l in row_long at (omega arith) ∙ sym (row_long (at + 2 * s.axes) (omega arith))
 
-  pub peak-shown : row at ≡ peak shown
-  peak-shown = peaks_of (row at) (row (at + s.axes)) (row (at + 2 * s.axes)) starts-long ends-long ∙ ap (λ (v : Variation). peak v) (sym shown-rows)
+  pub peak_shown : row at ≡ peak shown
+  peak_shown = peaks_of (row at) (row (at + s.axes)) (row (at + 2 * s.axes)) starts_long ends_long ∙ ap (λ (v : Variation). peak v) (sym shown_rows)
 
-  pub starts-shown : row (at + s.axes) ≡ map (λ t. t.start) shown.tents
-  starts-shown = starts_of (row at) (row (at + s.axes)) (row (at + 2 * s.axes)) starts-long ends-long ∙ ap (λ (v : Variation). map (λ t. t.start) v.tents) (sym shown-rows)
+  pub starts_shown : row (at + s.axes) ≡ map (λ t. t.start) shown.tents
+  starts_shown = starts_of (row at) (row (at + s.axes)) (row (at + 2 * s.axes)) starts_long ends_long ∙ ap (λ (v : Variation). map (λ t. t.start) v.tents) (sym shown_rows)
 
-  pub ends-shown : row (at + 2 * s.axes) ≡ map (λ t. t.end) shown.tents
-  ends-shown = ends_of (row at) (row (at + s.axes)) (row (at + 2 * s.axes)) starts-long ends-long ∙ ap (λ (v : Variation). map (λ t. t.end) v.tents) (sym shown-rows)
+  pub ends_shown : row (at + 2 * s.axes) ≡ map (λ t. t.end) shown.tents
+  ends_shown = ends_of (row at) (row (at + s.axes)) (row (at + 2 * s.axes)) starts_long ends_long ∙ ap (λ (v : Variation). map (λ t. t.end) v.tents) (sym shown_rows)
 
-  pub axes-shown : length shown.tents ≡ s.axes
-  axes-shown =
-      let v = values-fit s h i l in
-      let p = peak-shown in
+  pub axes_shown : length shown.tents ≡ s.axes
+  axes_shown =
+      let v = values_fit s h i l in
+      let p = peak_shown in
       let m = length-map shown.tents (λ t. t.peak) in
-      sym m ∙ ap length (sym p) ∙ row-long at (omega arith)
+      sym m ∙ ap length (sym p) ∙ row_long at (omega arith)
 
   pub rows_long : (part : account.Tent → ℤ) (xs : List ℤ) → xs ≡ map part shown.tents → length xs ≡ s.axes
-  rows_long part xs e = ap length e ∙ length-map shown.tents part ∙ axes-shown
+  rows_long part xs e = ap length e ∙ length-map shown.tents part ∙ axes_shown
 
-  pub few-shown : (ds : List GlyphDelta) → deltas_of ds ≡ shown.deltas → length ds ≤ 32767
-  few-shown ds is =
+  pub few_shown : (ds : List GlyphDelta) → deltas_of ds ≡ shown.deltas → length ds ≤ 32767
+  few_shown ds is =
       let c = h.few.1 i l in
       let f = deltas_fit s h i l in
       let d = length-drop (start_at s.variations i) s.deltas in
       let t = length-take-le (deltas_at s.variations i) (drop (start_at s.variations i) s.deltas) (omega arith) in
       let m = length-map (take (deltas_at s.variations i) (drop (start_at s.variations i) s.deltas)) delta_of in
       let k = length-map ds delta_of in
-      let e = ap length is ∙ ap (λ (v : Variation). length v.deltas) shown-rows in
+      let e = ap length is ∙ ap (λ (v : Variation). length v.deltas) shown_rows in
       omega arith
 
-  pub deltas-shown : deltas_of (take (get_or s.variations i blank_variation).deltas (drop (get_or s.variations i blank_variation).start s.deltas)) ≡ shown.deltas
-  deltas-shown = ap (λ (v : Variation). v.deltas) (sym shown-rows)
+  pub deltas_shown : deltas_of (take (get_or s.variations i blank_variation).deltas (drop (get_or s.variations i blank_variation).start s.deltas)) ≡ shown.deltas
+  deltas_shown = ap (λ (v : Variation). v.deltas) (sym shown_rows)
 
 -- the variations of a glyph, from the first place with its number
 group_at : (n : ℕ) (cs : List GlyphCell) (vs : List Variation) (p : ℕ) → p < length cs → number_at cs p ≡ n → ((g : ℕ) → g < p → number_at cs g ≡ n → ⊥) →
@@ -197,19 +197,19 @@ module _ (s : Stores) (h : Sound s) (d : Apart (number_at s.glyphs) s.begun) (n 
   abbrev used : List GlyphCell
   used = take s.begun s.glyphs
 
-  used-long : length used ≡ s.begun
-  used-long = length-take-le s.begun s.glyphs h.within.0
+  used_long : length used ≡ s.begun
+  used_long = length-take-le s.begun s.glyphs h.within.0
 
   same_at : (g : ℕ) → g < s.begun → get_or used g blank_glyph ≡ get_or s.glyphs g blank_glyph
   same_at g k = get_or-take s.begun s.glyphs g blank_glyph k
 
-  first-is : variations_in (take p used) ≡ first_at s.glyphs p
-  first-is = ap variations_in (take-take p s.begun s.glyphs (omega arith)) ∙ sym (h.placed.0 p l)
+  first_is : variations_in (take p used) ≡ first_at s.glyphs p
+  first_is = ap variations_in (take-take p s.begun s.glyphs (omega arith)) ∙ sym (h.placed.0 p l)
 
   pub spans : Spans (account_in s).glyphs n (record { first = first_at s.glyphs p; count = count_at s.glyphs p })
   spans =
-      let ll = used-long in
-      let f = first-is in
+      let ll = used_long in
+      let f = first_is in
       let ce = ap (λ (c : GlyphCell). c.variations) (same_at p l) in
       let all = all_long s h in
       let to = variations_to used p (omega arith) in
@@ -218,7 +218,7 @@ module _ (s : Stores) (h : Sound s) (d : Apart (number_at s.glyphs) s.begun) (n 
         few = h.few.0 p l;
         place =
             sym f
-            ∙ group_place n used (dealt s) p (omega arith) (omega (arith, h.counted.0, dealt-long s h)) (ap (λ (c : GlyphCell). c.number) (same_at p l) ∙ e)
+            ∙ group_place n used (dealt s) p (omega arith) (omega (arith, h.counted.0, dealt_long s h)) (ap (λ (c : GlyphCell). c.number) (same_at p l) ∙ e)
             (λ g k q. seen_not (number_at s.glyphs) (number_at s.glyphs p) p (d p l) g k (ap (λ (c : GlyphCell). c.number) (sym (same_at g (omega arith))) ∙ q ∙ sym e));
         within = omega (arith, h.counted.0);
         of_glyph =

@@ -6,29 +6,29 @@ use Rattle.std.proofs.lemmas.List.{drop_more, drop_all, drop-drop}
 use Rattle.format.specs.Account.{Declined, Condition, first_of}
 use Rattle.format.specs.Bytes.{pair, signed16}
 use Rattle.format.specs.Streams.{Rest, rest, Read, found, fault, and_then, cons_to, read_words}
-use Rattle.format.specs.Reader.{tuples, Header, header_of, header_rest, header-then, read_header, read-headers, peak-conditions, at_entry}
+use Rattle.format.specs.Reader.{tuples, Header, header_of, header_rest, header_then, read_header, read_headers, peak_conditions, at_entry}
 use Rattle.slots.specs.declared.headers.Head.{Head}
 use Rattle.streams.specs.Ahead.{one_more}
 use Rattle.slots.proofs.Prefix.{prefixed}
-use Rattle.slots.proofs.Prefix.{prefixed-none, prefixed-more}
+use Rattle.slots.proofs.Prefix.{prefixed_none, prefixed_more}
 use Rattle.slots.specs.Heads.{tuple_words, no_peak, HeadRead}
 
 -- so many words are there, or not
 module _ {X : Type 0} (f : ℕ → X) where
-  pub words-there : (n : ℕ) (bs : List ℕ) → 2 * n ≤ length bs → (vs : List X) × (read_words f n bs ≡ some (vs, drop (2 * n) bs)) × (length vs ≡ n)
-  words-there zero bs h = ([], refl, refl)
-  words-there (suc n) [] h = absurd (omega arith)
-  words-there (suc n) (a ∷ []) h = absurd (omega arith)
-  words-there (suc n) (a ∷ (b ∷ bs)) h =
-      let r = words-there n bs (omega arith) in
+  pub words_there : (n : ℕ) (bs : List ℕ) → 2 * n ≤ length bs → (vs : List X) × (read_words f n bs ≡ some (vs, drop (2 * n) bs)) × (length vs ≡ n)
+  words_there zero bs h = ([], refl, refl)
+  words_there (suc n) [] h = absurd (omega arith)
+  words_there (suc n) (a ∷ []) h = absurd (omega arith)
+  words_there (suc n) (a ∷ (b ∷ bs)) h =
+      let r = words_there n bs (omega arith) in
       let e : 2 * suc n ≡ suc (suc (2 * n)) = omega arith in
       (f (pair a b) ∷ r.0, rw (e, r.1), ap suc r.2)
 
-  pub words-short : (n : ℕ) (bs : List ℕ) → length bs < 2 * n → read_words f n bs ≡ none
-  words-short zero bs h = absurd (omega arith)
-  words-short (suc n) [] h = refl
-  words-short (suc n) (a ∷ []) h = refl
-  words-short (suc n) (a ∷ (b ∷ bs)) h = rw (words-short n bs (omega arith))
+  pub words_short : (n : ℕ) (bs : List ℕ) → length bs < 2 * n → read_words f n bs ≡ none
+  words_short zero bs h = absurd (omega arith)
+  words_short (suc n) [] h = refl
+  words_short (suc n) (a ∷ []) h = refl
+  words_short (suc n) (a ∷ (b ∷ bs)) h = rw (words_short n bs (omega arith))
 
 four_short : (a at : ℕ) (bs : List ℕ) → length bs < 4 → read_header a bs at ≡ none
 four_short a at [] h = refl
@@ -38,8 +38,8 @@ four_short a at (b ∷ (c ∷ (d ∷ []))) h = refl
 four_short a at (b ∷ (c ∷ (d ∷ (e ∷ bs)))) h = absurd (omega arith)
 
 module _ (a : ℕ) (bs : List ℕ) (at : ℕ) where
-  pub no-four : length bs - at < 4 → read_header a (drop at bs) at ≡ none
-  no-four h = four_short a at (drop at bs) (omega (arith, length-drop at bs))
+  pub no_four : length bs - at < 4 → read_header a (drop at bs) at ≡ none
+  no_four h = four_short a at (drop at bs) (omega (arith, length-drop at bs))
 
   one : (i j : ℕ) → i < length bs → j ≡ i + 1 → drop i bs ≡ get_or bs i 0 ∷ drop j bs
   one i j h e = rw e (drop_more bs i 0 h)
@@ -55,23 +55,23 @@ module _ (a : ℕ) (bs : List ℕ) (at : ℕ) where
       read_header a (drop at bs) at ≡ header_rest a at size index (tuples a index (drop (at + 4) bs))
   head_is size index h es ei = ap (λ t. read_header a t at) (four_bytes h) ∙ (rw (es, ei))
 
-  pub no-tuples : (index n : ℕ) → 4 ≤ length bs - at → index ≡ pair (get_or bs (at + 2) 0) (get_or bs (at + 3) 0) →
+  pub no_tuples : (index n : ℕ) → 4 ≤ length bs - at → index ≡ pair (get_or bs (at + 2) 0) (get_or bs (at + 3) 0) →
       n ≡ tuple_words a index → length bs - at - 4 < 2 * n → read_header a (drop at bs) at ≡ none
-  no-tuples index n h ei en l =
+  no_tuples index n h ei en l =
       let size = pair (get_or bs at 0) (get_or bs (at + 1) 0) in
-      let s : read_words signed16 (tuple_words a index) (drop (at + 4) bs) ≡ none = words-short signed16 (tuple_words a index) (drop (at + 4) bs) (omega (arith, length-drop (at + 4) bs)) in
+      let s : read_words signed16 (tuple_words a index) (drop (at + 4) bs) ≡ none = words_short signed16 (tuple_words a index) (drop (at + 4) bs) (omega (arith, length-drop (at + 4) bs)) in
       head_is size index h refl ei ∙ ap (header_rest a at size index) s
 
   -- the tuples, if they are inside
-  tuples-are : (n past : ℕ) → at + 4 + 2 * n ≡ past → past ≤ length bs → (vs : List ℤ) × (read_words signed16 n (drop (at + 4) bs) ≡ some (vs, drop past bs)) × (length vs ≡ n)
-  tuples-are n past e l =
-      let w = words-there signed16 n (drop (at + 4) bs) (omega (arith, length-drop (at + 4) bs)) in
+  tuples_are : (n past : ℕ) → at + 4 + 2 * n ≡ past → past ≤ length bs → (vs : List ℤ) × (read_words signed16 n (drop (at + 4) bs) ≡ some (vs, drop past bs)) × (length vs ≡ n)
+  tuples_are n past e l =
+      let w = words_there signed16 n (drop (at + 4) bs) (omega (arith, length-drop (at + 4) bs)) in
       (w.0, w.1 ∙ ap (λ r. some (w.0, r)) (drop-drop (2 * n) (at + 4) bs ∙ ap (λ k. drop k bs) e), w.2)
 
   pub head_read : (size index n past : ℕ) → 4 ≤ length bs - at → size ≡ pair (get_or bs at 0) (get_or bs (at + 1) 0) → index ≡ pair (get_or bs (at + 2) 0) (get_or bs (at + 3) 0) →
       n ≡ tuple_words a index → 2 * n ≤ length bs - at - 4 → past ≡ at + 4 + 2 * n → HeadRead bs at a (record { size = size; index = index; past = past })
   head_read size index n past h es ei en l ep =
-      let w = tuples-are (tuple_words a index) past (omega arith) (omega arith) in
+      let w = tuples_are (tuple_words a index) past (omega arith) (omega arith) in
       let z : at + (4 + 2 * length w.0) ≡ past = omega (arith, w.2) in
       record {
         values = w.0;
@@ -87,43 +87,43 @@ push x (found s) = refl
 push x (fault e) = refl
 
 module _ (g a : ℕ) (bs : List ℕ) (at n i : ℕ) where
-  pub heads-fault : i < n → read_header a (drop at bs) at ≡ none → read-headers g a i (n - i) (drop at bs) at ≡ fault (at_entry g i 21 at)
-  heads-fault l e =
+  pub heads_fault : i < n → read_header a (drop at bs) at ≡ none → read_headers g a i (n - i) (drop at bs) at ≡ fault (at_entry g i 21 at)
+  heads_fault l e =
       let s : n - i ≡ suc (n - (i + 1)) = omega arith in
       rw (s, e)
 
-  pub heads-more : (h : Head) → i < n → (r : HeadRead bs at a h) → read-headers g a i (n - i) (drop at bs) at
-      ≡ one_more (header_of a at h.size h.index r.values) (read-headers g a (i + 1) (n - (i + 1)) (drop h.past bs) h.past)
-  heads-more h l r =
+  pub heads_more : (h : Head) → i < n → (r : HeadRead bs at a h) → read_headers g a i (n - i) (drop at bs) at
+      ≡ one_more (header_of a at h.size h.index r.values) (read_headers g a (i + 1) (n - (i + 1)) (drop h.past bs) h.past)
+  heads_more h l r =
       let x = header_of a at h.size h.index r.values in
       let s : n - i ≡ suc (n - (i + 1)) = omega arith in
       let t : suc i ≡ i + 1 = omega arith in
-      rw (s, r.is_read) (push x (read-headers g a (suc i) (n - (i + 1)) (drop h.past bs) h.past))
-      ∙ ap (λ j. one_more x (read-headers g a j (n - (i + 1)) (drop h.past bs) h.past)) t
+      rw (s, r.is_read) (push x (read_headers g a (suc i) (n - (i + 1)) (drop h.past bs) h.past))
+      ∙ ap (λ j. one_more x (read_headers g a j (n - (i + 1)) (drop h.past bs) h.past)) t
 
-  pub heads-none : n ≤ i → read-headers g a i (n - i) (drop at bs) at ≡ found (rest [] (drop at bs) at)
-  heads-none l =
+  pub heads_none : n ≤ i → read_headers g a i (n - i) (drop at bs) at ≡ found (rest [] (drop at bs) at)
+  heads_none l =
       let s : n - i ≡ 0 = omega arith in
       rw s
 
 -- what was read is in front of what is left
 abbrev pub HeadsSoFar : List ℕ → ℕ → ℕ → ℕ → ℕ → ℕ → Type 0
-HeadsSoFar bs at a n i place = (hs : List Header) × ((g : ℕ) → read-headers g a 0 n (drop at bs) at ≡ prefixed hs (read-headers g a i (n - i) (drop place bs) place))
+HeadsSoFar bs at a n i place = (hs : List Header) × ((g : ℕ) → read_headers g a 0 n (drop at bs) at ≡ prefixed hs (read_headers g a i (n - i) (drop place bs) place))
 
 module _ (bs : List ℕ) (at a n : ℕ) where
-  pub so-far-none : HeadsSoFar bs at a n 0 at
-  so-far-none = let z : n - 0 ≡ n = omega arith in ([], λ g. rw z (prefixed-none (read-headers g a 0 n (drop at bs) at)))
+  pub so_far_none : HeadsSoFar bs at a n 0 at
+  so_far_none = let z : n - 0 ≡ n = omega arith in ([], λ g. rw z (prefixed_none (read_headers g a 0 n (drop at bs) at)))
 
   pub so_far_more : (i place : ℕ) (h : Head) → i < n → HeadsSoFar bs at a n i place → HeadRead bs place a h → HeadsSoFar bs at a n (i + 1) h.past
   so_far_more i place h l s r =
       let x = header_of a place h.size h.index r.values in
-      (s.0 ++ (x ∷ []), λ g. s.1 g ∙ ap (prefixed s.0) (heads-more g a bs place n i h l r) ∙ prefixed-more s.0 x _)
+      (s.0 ++ (x ∷ []), λ g. s.1 g ∙ ap (prefixed s.0) (heads_more g a bs place n i h l r) ∙ prefixed_more s.0 x _)
 
-  pub so-far-fault : (i place : ℕ) → i < n → HeadsSoFar bs at a n i place → read_header a (drop place bs) place ≡ none → (g : ℕ) → read-headers g a 0 n (drop at bs) at ≡ fault (at_entry g i 21 place)
-  so-far-fault i place l s e g = s.1 g ∙ ap (prefixed s.0) (heads-fault g a bs place n i l e)
+  pub so_far_fault : (i place : ℕ) → i < n → HeadsSoFar bs at a n i place → read_header a (drop place bs) place ≡ none → (g : ℕ) → read_headers g a 0 n (drop at bs) at ≡ fault (at_entry g i 21 place)
+  so_far_fault i place l s e g = s.1 g ∙ ap (prefixed s.0) (heads_fault g a bs place n i l e)
 
-  pub so-far-all : (i place : ℕ) → n ≤ i → HeadsSoFar bs at a n i place → (hs : List Header) × ((g : ℕ) → read-headers g a 0 n (drop at bs) at ≡ found (rest hs (drop place bs) place))
-  so-far-all i place l s = (s.0 ++ [], λ g. s.1 g ∙ ap (prefixed s.0) (heads-none g a bs place n i l))
+  pub so_far_all : (i place : ℕ) → n ≤ i → HeadsSoFar bs at a n i place → (hs : List Header) × ((g : ℕ) → read_headers g a 0 n (drop at bs) at ≡ found (rest hs (drop place bs) place))
+  so_far_all i place l s = (s.0 ++ [], λ g. s.1 g ∙ ap (prefixed s.0) (heads_none g a bs place n i l))
 
 -- the first of a list of headers that is found
 pub un_one : {X : Type 0} (x : X) (r : Read (Rest (List X))) (hs : List X) (left : List ℕ) (p : ℕ) → one_more x r ≡ found (rest hs left p) → (tl : List X) × (r ≡ found (rest tl left p)) × (hs ≡ x ∷ tl)
@@ -140,39 +140,39 @@ not_both r d x e f = let z : ◌≡◌ {A = ℕ} 0 1 = cc in omega arith
 -- the headers left are found, and the first condition on them is the first of all
 abbrev pub PeaksLeft : List ℕ → ℕ → ℕ → ℕ → ℕ → ℕ → ℕ → Type 0
 PeaksLeft bs at a n peaks i place =
-    (g : ℕ) (hs : List Header) (left : List ℕ) (p : ℕ) → read-headers g a 0 n (drop at bs) at ≡ found (rest hs left p) →
-    (tl : List Header) × (read-headers g a i (n - i) (drop place bs) place ≡ found (rest tl left p)) × (first_of (peak-conditions g peaks 0 hs) ≡ first_of (peak-conditions g peaks i tl))
+    (g : ℕ) (hs : List Header) (left : List ℕ) (p : ℕ) → read_headers g a 0 n (drop at bs) at ≡ found (rest hs left p) →
+    (tl : List Header) × (read_headers g a i (n - i) (drop place bs) place ≡ found (rest tl left p)) × (first_of (peak_conditions g peaks 0 hs) ≡ first_of (peak_conditions g peaks i tl))
 
 module _ (bs : List ℕ) (at a n peaks : ℕ) where
-  pub peaks-none : PeaksLeft bs at a n peaks 0 at
-  peaks-none g hs left p e = let z : n - 0 ≡ n = omega arith in (hs, rw z e, refl)
+  pub peaks_none : PeaksLeft bs at a n peaks 0 at
+  peaks_none g hs left p e = let z : n - 0 ≡ n = omega arith in (hs, rw z e, refl)
 
-  pub peaks-more : (i place : ℕ) (h : Head) → i < n → PeaksLeft bs at a n peaks i place → HeadRead bs place a h → no_peak h.index peaks ≡ false → PeaksLeft bs at a n peaks (i + 1) h.past
-  peaks-more i place h l s r b g hs left p e =
+  pub peaks_more : (i place : ℕ) (h : Head) → i < n → PeaksLeft bs at a n peaks i place → HeadRead bs place a h → no_peak h.index peaks ≡ false → PeaksLeft bs at a n peaks (i + 1) h.past
+  peaks_more i place h l s r b g hs left p e =
       let q = s g hs left p e in
       let x = header_of a place h.size h.index r.values in
-      let u = un_one x (read-headers g a (i + 1) (n - (i + 1)) (drop h.past bs) h.past) q.0 left p (sym (heads-more g a bs place n i h l r) ∙ q.1) in
+      let u = un_one x (read_headers g a (i + 1) (n - (i + 1)) (drop h.past bs) h.past) q.0 left p (sym (heads_more g a bs place n i h l r) ∙ q.1) in
       let t : suc i ≡ i + 1 = omega arith in
-      (u.0, u.1, q.2 ∙ ap (λ t. first_of (peak-conditions g peaks i t)) u.2 ∙ cond-false _ _ _ b ∙ ap (λ j. first_of (peak-conditions g peaks j u.0)) t)
+      (u.0, u.1, q.2 ∙ ap (λ t. first_of (peak_conditions g peaks i t)) u.2 ∙ cond-false _ _ _ b ∙ ap (λ j. first_of (peak_conditions g peaks j u.0)) t)
 
-  pub peaks-here : (i place : ℕ) (h : Head) → i < n → PeaksLeft bs at a n peaks i place → HeadRead bs place a h → no_peak h.index peaks ≡ true →
-      (g : ℕ) (hs : List Header) (left : List ℕ) (p : ℕ) → read-headers g a 0 n (drop at bs) at ≡ found (rest hs left p) → first_of (peak-conditions g peaks 0 hs) ≡ some (at_entry g i 21 place)
-  peaks-here i place h l s r b g hs left p e =
+  pub peaks_here : (i place : ℕ) (h : Head) → i < n → PeaksLeft bs at a n peaks i place → HeadRead bs place a h → no_peak h.index peaks ≡ true →
+      (g : ℕ) (hs : List Header) (left : List ℕ) (p : ℕ) → read_headers g a 0 n (drop at bs) at ≡ found (rest hs left p) → first_of (peak_conditions g peaks 0 hs) ≡ some (at_entry g i 21 place)
+  peaks_here i place h l s r b g hs left p e =
       let q = s g hs left p e in
       let x = header_of a place h.size h.index r.values in
-      let u = un_one x (read-headers g a (i + 1) (n - (i + 1)) (drop h.past bs) h.past) q.0 left p (sym (heads-more g a bs place n i h l r) ∙ q.1) in
-      q.2 ∙ ap (λ t. first_of (peak-conditions g peaks i t)) u.2 ∙ cond-true _ _ _ b
+      let u = un_one x (read_headers g a (i + 1) (n - (i + 1)) (drop h.past bs) h.past) q.0 left p (sym (heads_more g a bs place n i h l r) ∙ q.1) in
+      q.2 ∙ ap (λ t. first_of (peak_conditions g peaks i t)) u.2 ∙ cond-true _ _ _ b
 
-  pub peaks-never : (i place : ℕ) → i < n → PeaksLeft bs at a n peaks i place → read_header a (drop place bs) place ≡ none →
-      (g : ℕ) (hs : List Header) (left : List ℕ) (p : ℕ) → read-headers g a 0 n (drop at bs) at ≡ found (rest hs left p) → first_of (peak-conditions g peaks 0 hs) ≡ none
-  peaks-never i place l s b g hs left p e =
+  pub peaks_never : (i place : ℕ) → i < n → PeaksLeft bs at a n peaks i place → read_header a (drop place bs) place ≡ none →
+      (g : ℕ) (hs : List Header) (left : List ℕ) (p : ℕ) → read_headers g a 0 n (drop at bs) at ≡ found (rest hs left p) → first_of (peak_conditions g peaks 0 hs) ≡ none
+  peaks_never i place l s b g hs left p e =
       let q = s g hs left p e in
-      absurd (not_both (read-headers g a i (n - i) (drop place bs) place) _ _ (heads-fault g a bs place n i l b) q.1)
+      absurd (not_both (read_headers g a i (n - i) (drop place bs) place) _ _ (heads_fault g a bs place n i l b) q.1)
 
-  pub peaks-all : (i place : ℕ) → n ≤ i → PeaksLeft bs at a n peaks i place →
-      (g : ℕ) (hs : List Header) (left : List ℕ) (p : ℕ) → read-headers g a 0 n (drop at bs) at ≡ found (rest hs left p) → first_of (peak-conditions g peaks 0 hs) ≡ none
-  peaks-all i place l s g hs left p e =
+  pub peaks_all : (i place : ℕ) → n ≤ i → PeaksLeft bs at a n peaks i place →
+      (g : ℕ) (hs : List Header) (left : List ℕ) (p : ℕ) → read_headers g a 0 n (drop at bs) at ≡ found (rest hs left p) → first_of (peak_conditions g peaks 0 hs) ≡ none
+  peaks_all i place l s g hs left p e =
       let q = s g hs left p e in
-      let f : found (rest [] (drop place bs) place) ≡ found (rest q.0 left p) = sym (heads-none g a bs place n i l) ∙ q.1 in
+      let f : found (rest [] (drop place bs) place) ≡ found (rest q.0 left p) = sym (heads_none g a bs place n i l) ∙ q.1 in
       let z : rest [] (drop place bs) place ≡ rest q.0 left p = cc in
-      q.2 ∙ ap (λ t. first_of (peak-conditions g peaks i t)) (sym (ap (λ t. t.value) z))
+      q.2 ∙ ap (λ t. first_of (peak_conditions g peaks i t)) (sym (ap (λ t. t.value) z))

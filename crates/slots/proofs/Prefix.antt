@@ -9,10 +9,10 @@ abbrev pub prefixed : {X : Type 0} → List X → Read (Rest (List X)) → Read 
 prefixed xs r = and_then r (λ s. found (rest (xs ++ s.value) s.left s.place))
 
 module _ {X : Type 0} where
-  pub prefixed-none : (r : Read (Rest (List X))) → r ≡ prefixed [] r
-  prefixed-none (found s) = refl
-  prefixed-none (fault e) = refl
+  pub prefixed_none : (r : Read (Rest (List X))) → r ≡ prefixed [] r
+  prefixed_none (found s) = refl
+  prefixed_none (fault e) = refl
 
-  pub prefixed-more : (xs : List X) (x : X) (r : Read (Rest (List X))) → prefixed xs (one_more x r) ≡ prefixed (xs ++ (x ∷ [])) r
-  prefixed-more xs x (found s) = ap (λ ys. found (rest ys s.left s.place)) (sym (append_assoc xs (x ∷ []) s.value))
-  prefixed-more xs x (fault e) = refl
+  pub prefixed_more : (xs : List X) (x : X) (r : Read (Rest (List X))) → prefixed xs (one_more x r) ≡ prefixed (xs ++ (x ∷ [])) r
+  prefixed_more xs x (found s) = ap (λ ys. found (rest ys s.left s.place)) (sym (append_assoc xs (x ∷ []) s.value))
+  prefixed_more xs x (fault e) = refl

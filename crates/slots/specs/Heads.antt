@@ -4,7 +4,7 @@ use Rattle.std.proofs.Math.Option.{Option, none, some}
 use Rattle.format.specs.Account.{Declined, first_of}
 use Rattle.format.specs.Bytes.{signed16}
 use Rattle.format.specs.Streams.{rest, found, fault, read_words}
-use Rattle.format.specs.Reader.{Header, header_of, is_embedded, is_regional, peak_index, read_header, read-headers, peak-conditions}
+use Rattle.format.specs.Reader.{Header, header_of, is_embedded, is_regional, peak_index, read_header, read_headers, peak_conditions}
 use Rattle.slots.specs.declared.fault.SlotFault.{SlotFault}
 use Rattle.slots.specs.declared.headers.Head.{Head}
 use Rattle.slots.specs.Faults.{slot_declined}
@@ -32,8 +32,8 @@ HeadFound bs at a (Some h) = HeadRead bs at a h
 
 -- the place past n headers, or their fault
 abbrev pub HeadsPast : List ℕ → ℕ → ℕ → ℕ → Result ℕ SlotFault → Type 0
-HeadsPast bs at a n (Ok past) = (hs : List Header) × ((g : ℕ) → read-headers g a 0 n (drop at bs) at ≡ found (rest hs (drop past bs) past))
-HeadsPast bs at a n (Err f) = (g : ℕ) → read-headers g a 0 n (drop at bs) at ≡ fault (slot_declined g f)
+HeadsPast bs at a n (Ok past) = (hs : List Header) × ((g : ℕ) → read_headers g a 0 n (drop at bs) at ≡ found (rest hs (drop past bs) past))
+HeadsPast bs at a n (Err f) = (g : ℕ) → read_headers g a 0 n (drop at bs) at ≡ fault (slot_declined g f)
 
 -- the fault of the first header whose shared peak is not there
 abbrev pub peaks_fault : ℕ → Result (Unit {0}) SlotFault → Option Declined
@@ -43,5 +43,5 @@ peaks_fault g (Err f) = some (slot_declined g f)
 -- where n headers are read, this is what is wrong with their shared peaks
 abbrev pub PeaksChecked : List ℕ → ℕ → ℕ → ℕ → ℕ → Result (Unit {0}) SlotFault → Type 0
 PeaksChecked bs at a n peaks r =
-    (g : ℕ) (hs : List Header) (left : List ℕ) (past : ℕ) → read-headers g a 0 n (drop at bs) at ≡ found (rest hs left past) →
-    first_of (peak-conditions g peaks 0 hs) ≡ peaks_fault g r
+    (g : ℕ) (hs : List Header) (left : List ℕ) (past : ℕ) → read_headers g a 0 n (drop at bs) at ≡ found (rest hs left past) →
+    first_of (peak_conditions g peaks 0 hs) ≡ peaks_fault g r

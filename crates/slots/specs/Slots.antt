@@ -4,7 +4,7 @@ use Rattle.std.proofs.Math.Option.{none}
 use Rattle.format.specs.Account.{Declined, first_of}
 use Rattle.format.specs.Packed.{Points, every}
 use Rattle.format.specs.Streams.{rest, Read, found, fault}
-use Rattle.format.specs.Reader.{Header, Entry, Checked, points_of, peak-conditions, read-headers, read_entries, read_store, read_bytes_of_slot}
+use Rattle.format.specs.Reader.{Header, Entry, Checked, points_of, peak_conditions, read_headers, read_entries, read_store, read_bytes_of_slot}
 use Rattle.slots.specs.declared.fault.SlotFault.{SlotFault}
 use Rattle.slots.specs.declared.slot.SlotStart.{SlotStart}
 use Rattle.slots.specs.Faults.{slot_declined}
@@ -25,8 +25,8 @@ pub record SlotRead (bs : List ℕ) (a peaks p : ℕ) (answer : Checked → ℕ 
   pub headers : List Header
   pub left : List ℕ
   pub past : ℕ
-  pub heads_read : (g : ℕ) → read-headers g a 0 s.count (drop s.header bs) s.header ≡ found (rest headers left past)
-  pub peaks_there : (g : ℕ) → first_of (peak-conditions g peaks 0 headers) ≡ none
+  pub heads_read : (g : ℕ) → read_headers g a 0 s.count (drop s.header bs) s.header ≡ found (rest headers left past)
+  pub peaks_there : (g : ℕ) → first_of (peak_conditions g peaks 0 headers) ≡ none
   pub entries_read : (c : Checked) (g : ℕ) → c.axes ≡ a → c.peak_count ≡ peaks → (es : List Entry) × (r : List ℕ) × (end : ℕ)
       × (read_entries c g p set 0 headers (drop s.body bs) s.body ≡ found (rest es r end)) × (answer c g ≡ found es)
 

@@ -22,5 +22,5 @@ module _ (f : Variation → List ℕ) (vs : List Variation) (j : ℕ) where
       let l = ap length (left_more h) ∙ length-append (f (variation_at vs j)) (left_at f vs (j + 1)) in
       omega arith
 
-  pub sum-all : (a t : ℕ) → length vs ≤ j → a + length (left_at f vs j) ≡ t → a ≡ t
-  sum-all a t h s = let l = ap length (left_none h) in omega arith
+  pub sum_all : (a t : ℕ) → length vs ≤ j → a + length (left_at f vs j) ≡ t → a ≡ t
+  sum_all a t h s = let l = ap length (left_none h) in omega arith

@@ -21,21 +21,21 @@ module _ (s : Option Points) (g j : ℕ) (v : Variation) (ws : List Variation) (
       ∙ ap (λ i. first_of (data_conditions s g i ws ++ cs)) (sym (add-one j))
 
 module _ (g : ℕ) (vs : List Variation) (j : ℕ) (cs : List Condition) where
-  pub data-over : j < length vs → 65535 < length (data_in vs (variation_at vs j)) → first_of (data_tests g vs j cs) ≡ some (declined 12 (some g) (some j) none)
+  pub data_over : j < length vs → 65535 < length (data_in vs (variation_at vs j)) → first_of (data_tests g vs j cs) ≡ some (declined 12 (some g) (some j) none)
   unfolding data_tests data_in
-  data-over h o =
+  data_over h o =
       let s = shared_points (point_sets vs) in
       at_drop_more (λ ws. first_of (data_conditions s g j ws ++ cs)) vs j (record { tents = []; deltas = [] }) h ∙ applies s g j (variation_at vs j) (drop (j + 1) vs) cs o
 
-  pub data-within : j < length vs → length (data_in vs (variation_at vs j)) ≤ 65535 → first_of (data_tests g vs j cs) ≡ first_of (data_tests g vs (j + 1) cs)
+  pub data_within : j < length vs → length (data_in vs (variation_at vs j)) ≤ 65535 → first_of (data_tests g vs j cs) ≡ first_of (data_tests g vs (j + 1) cs)
   unfolding data_tests data_in
-  data-within h o =
+  data_within h o =
       let s = shared_points (point_sets vs) in
       at_drop_more (λ ws. first_of (data_conditions s g j ws ++ cs)) vs j (record { tents = []; deltas = [] }) h ∙ passes s g j (variation_at vs j) (drop (j + 1) vs) cs o
 
-  pub data-ended : length vs ≤ j → first_of (data_tests g vs j cs) ≡ first_of cs
+  pub data_ended : length vs ≤ j → first_of (data_tests g vs j cs) ≡ first_of cs
   unfolding data_tests
-  data-ended h = let s = shared_points (point_sets vs) in at_drop_all (λ ws. first_of (data_conditions s g j ws ++ cs)) vs j h
+  data_ended h = let s = shared_points (point_sets vs) in at_drop_all (λ ws. first_of (data_conditions s g j ws ++ cs)) vs j h
 
 -- the test of 13
 abbrev headers_test : List (List ℤ) → ℕ → List Variation → Condition
@@ -47,8 +47,8 @@ size_tests ps g vs = refl
 
 module _ (ps : List (List ℤ)) (g : ℕ) (vs : List Variation) where
   -- the data of a variation does not fit
-  pub data-refused : (d : Declined) → ((cs : List Condition) → first_of (data_tests g vs 0 cs) ≡ some d) → first_of (size_conditions ps g vs) ≡ some d
-  data-refused d h = ap first_of (size_tests ps g vs) ∙ h (headers_test ps g vs ∷ [])
+  pub data_refused : (d : Declined) → ((cs : List Condition) → first_of (data_tests g vs 0 cs) ≡ some d) → first_of (size_conditions ps g vs) ≡ some d
+  data_refused d h = ap first_of (size_tests ps g vs) ∙ h (headers_test ps g vs ∷ [])
 
   module _ (h : (cs : List Condition) → first_of (data_tests g vs 0 cs) ≡ first_of cs) (n : ℕ) (e : n ≡ length (all_headers ps vs)) where
     tested : first_of (size_conditions ps g vs) ≡ cond (ltb 65535 (4 + n)) (some (declined 13 (some g) none none)) none
@@ -58,9 +58,9 @@ module _ (ps : List (List ℤ)) (g : ℕ) (vs : List Variation) where
         ∙ ap (λ k. cond (ltb 65535 (4 + k)) (some (declined 13 (some g) none none)) none) (sym e)
 
     -- all data fits, and the headers do not
-    pub headers-refused : 65535 < 4 + n → first_of (size_conditions ps g vs) ≡ some (declined 13 (some g) none none)
-    headers-refused o = tested ∙ cond-true (ltb 65535 (4 + n)) _ _ (lt-ltb 65535 (4 + n) o)
+    pub headers_refused : 65535 < 4 + n → first_of (size_conditions ps g vs) ≡ some (declined 13 (some g) none none)
+    headers_refused o = tested ∙ cond-true (ltb 65535 (4 + n)) _ _ (lt-ltb 65535 (4 + n) o)
 
     -- all fits
-    pub all-within : 4 + n ≤ 65535 → first_of (size_conditions ps g vs) ≡ none
-    all-within o = tested ∙ cond-false (ltb 65535 (4 + n)) _ _ (le-ltb 65535 (4 + n) o)
+    pub all_within : 4 + n ≤ 65535 → first_of (size_conditions ps g vs) ≡ none
+    all_within o = tested ∙ cond-false (ltb 65535 (4 + n)) _ _ (le-ltb 65535 (4 + n) o)

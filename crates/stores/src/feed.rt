@@ -13,7 +13,7 @@ const SHARED_POINT_NUMBERS: usize = 0x8000;
 
 // The flag where points are shared, and else 0.
 fn shared_flag<T: TupleVariations>(store: &T) -> usize
-    ensures flag { result ≡ flag_of (variations store.now) }
+    ensures flag { result ≡ flag_of (T.variations store.now) }
     ensures most { result ≤ 32768 }
 {
     if store.shared_size() > 0 {
@@ -25,7 +25,7 @@ fn shared_flag<T: TupleVariations>(store: &T) -> usize
 
 // The number of variations with the flag, then the offset of what follows the headers.
 fn first_words<T: TupleVariations>(store: &T) -> [u8; 4]
-    ensures { result ≡ first_words (peaks store.now) (variations store.now) }
+    ensures { result ≡ first_words (T.peaks store.now) (T.variations store.now) }
 {
     let count = shared_flag(store) + store.count();
     let offset = 4 + headers_size(store);
@@ -39,7 +39,7 @@ fn first_words<T: TupleVariations>(store: &T) -> [u8; 4]
 
 // Hands over the headers, variation by variation.
 fn feed_headers<T: TupleVariations, S: Sink>(store: &T, sink: &mut S) -> Result<(), SinkError>
-    ensures { Fed step (all_headers (peaks store.now) (variations store.now)) (stands sink.old) (stands sink.new) result }
+    ensures { Fed S.step (all_headers (T.peaks store.now) (T.variations store.now)) (S.stands sink.old) (S.stands sink.new) result }
 {
     let count = store.count();
     for j in 0..count {
@@ -50,7 +50,7 @@ fn feed_headers<T: TupleVariations, S: Sink>(store: &T, sink: &mut S) -> Result<
 
 // Hands over the data, variation by variation.
 fn feed_all_data<T: TupleVariations, S: Sink>(store: &T, sink: &mut S) -> Result<(), SinkError>
-    ensures { Fed step (all_data (variations store.now)) (stands sink.old) (stands sink.new) result }
+    ensures { Fed S.step (all_data (T.variations store.now)) (S.stands sink.old) (S.stands sink.new) result }
 {
     let count = store.count();
     for j in 0..count {
@@ -61,7 +61,7 @@ fn feed_all_data<T: TupleVariations, S: Sink>(store: &T, sink: &mut S) -> Result
 
 // Hands over the store: two words, the headers, the shared points, the data. A glyph without variations has no bytes.
 pub fn feed_store<T: TupleVariations, S: Sink>(store: &T, sink: &mut S) -> Result<(), SinkError>
-    ensures { Fed step (glyph_bytes (peaks store.now) (variations store.now)) (stands sink.old) (stands sink.new) result }
+    ensures { Fed S.step (glyph_bytes (T.peaks store.now) (T.variations store.now)) (S.stands sink.old) (S.stands sink.new) result }
 {
     if store.count() == 0 {
         return Ok(());

@@ -23,7 +23,7 @@ pub enum StoreFault {
 
 // The number of bytes of all headers.
 pub(crate) fn headers_size<T: TupleVariations>(store: &T) -> usize
-    ensures size { result ≡ length (all_headers (peaks store.now) (variations store.now)) }
+    ensures size { result ≡ length (all_headers (T.peaks store.now) (T.variations store.now)) }
     ensures most { result ≤ 2 ^ 32 }
 {
     let count = store.count();
@@ -36,7 +36,7 @@ pub(crate) fn headers_size<T: TupleVariations>(store: &T) -> usize
 
 // The number of bytes of all data, or the first variation with too many of them.
 fn all_data_size<T: TupleVariations>(store: &T) -> Result<usize, u16>
-    ensures { DataSized (variations store.now) result }
+    ensures { DataSized (T.variations store.now) result }
 {
     let count = store.count();
     let mut size = 0;
@@ -53,7 +53,7 @@ fn all_data_size<T: TupleVariations>(store: &T) -> Result<usize, u16>
 // The size of a store, or the first part that does not fit: the data of each variation, then the headers. A glyph
 // without variations has no bytes.
 pub fn store_size<T: TupleVariations>(store: &T) -> Result<usize, StoreFault>
-    ensures { StoreSized (peaks store.now) (variations store.now) result }
+    ensures { StoreSized (T.peaks store.now) (T.variations store.now) result }
 {
     let data = match all_data_size(store) {
         Ok(size) => size,
@@ -72,8 +72,8 @@ pub fn store_size<T: TupleVariations>(store: &T) -> Result<usize, StoreFault>
 
 // The size of a store that was found to fit; 0 of any other.
 pub fn known_size<T: TupleVariations>(store: &T) -> usize
-    ensures size { (g : ℕ) → first_of (size_conditions (peaks store.now) g (variations store.now)) ≡ none → result ≡ length (glyph_bytes (peaks store.now) (variations store.now)) }
-    ensures refused { (g : ℕ) (d : Declined) → first_of (size_conditions (peaks store.now) g (variations store.now)) ≡ some d → result ≡ 0 }
+    ensures size { (g : ℕ) → first_of (size_conditions (T.peaks store.now) g (T.variations store.now)) ≡ none → result ≡ length (glyph_bytes (T.peaks store.now) (T.variations store.now)) }
+    ensures refused { (g : ℕ) (d : Declined) → first_of (size_conditions (T.peaks store.now) g (T.variations store.now)) ≡ some d → result ≡ 0 }
     ensures most { result ≤ 2 ^ 29 }
 {
     match store_size(store) {
@@ -84,7 +84,7 @@ pub fn known_size<T: TupleVariations>(store: &T) -> usize
 
 // The number of bytes of all data, whether or not each fits.
 fn data_total<T: TupleVariations>(store: &T) -> usize
-    ensures size { result ≡ length (all_data (variations store.now)) }
+    ensures size { result ≡ length (all_data (T.variations store.now)) }
     ensures most { result ≤ 2 ^ 32 }
 {
     let count = store.count();
@@ -97,7 +97,7 @@ fn data_total<T: TupleVariations>(store: &T) -> usize
 
 // The size of a store, whether or not its parts fit their fields.
 pub fn exact_size<T: TupleVariations>(store: &T) -> usize
-    ensures size { result ≡ length (glyph_bytes (peaks store.now) (variations store.now)) }
+    ensures size { result ≡ length (glyph_bytes (T.peaks store.now) (T.variations store.now)) }
     ensures most { result ≤ 2 ^ 34 }
 {
     if store.count() == 0 {

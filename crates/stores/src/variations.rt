@@ -25,7 +25,7 @@ pub trait TupleVariations {
 
     // Hands over the shared points.
     fn feed_shared<S: Sink>(&self, sink: &mut S) -> Result<(), SinkError>
-        ensures { Fed step (shared_of (variations self.now)) (stands sink.old) (stands sink.new) result };
+        ensures { Fed S.step (shared_of (variations self.now)) (S.stands sink.old) (S.stands sink.new) result };
 
     // The number of bytes of a variation's header.
     fn header_size(&self, j: usize) -> usize
@@ -36,7 +36,7 @@ pub trait TupleVariations {
     // Hands over a variation's header.
     fn feed_header<S: Sink>(&self, j: usize, sink: &mut S) -> Result<(), SinkError>
         requires { j < length (variations self.now) }
-        ensures { Fed step (header_in (peaks self.now) (variations self.now) (variation_at (variations self.now) j)) (stands sink.old) (stands sink.new) result };
+        ensures { Fed S.step (header_in (peaks self.now) (variations self.now) (variation_at (variations self.now) j)) (S.stands sink.old) (S.stands sink.new) result };
 
     // The number of bytes of a variation's data.
     fn data_size(&self, j: usize) -> usize
@@ -47,5 +47,5 @@ pub trait TupleVariations {
     // Hands over a variation's data.
     fn feed_data<S: Sink>(&self, j: usize, sink: &mut S) -> Result<(), SinkError>
         requires { j < length (variations self.now) }
-        ensures { Fed step (data_in (variations self.now) (variation_at (variations self.now) j)) (stands sink.old) (stands sink.new) result };
+        ensures { Fed S.step (data_in (variations self.now) (variation_at (variations self.now) j)) (S.stands sink.old) (S.stands sink.new) result };
 }

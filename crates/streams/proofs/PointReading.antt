@@ -3,14 +3,14 @@ use Rattle.std.proofs.Common.{◌≡◌, ℕ, zero, suc, ◌+◌, ◌-◌, ◌*�
 use mathlib.Core.Option.{Option, none, some}
 use Rattle.format.specs.Account.{Declined}
 use Rattle.format.specs.Bytes.{pair}
-use Rattle.format.specs.Streams.{Rest, rest, Read, found, fault, fault_if, and_then, cons_to, read_bytes, read_words, read_gaps, points_after, last_of, rises, point-run, point-runs}
+use Rattle.format.specs.Streams.{Rest, rest, Read, found, fault, fault_if, and_then, cons_to, read_bytes, read_words, read_gaps, points_after, last_of, rises, point_run, point_runs}
 use Rattle.streams.specs.declared.fault.StreamFault.{StreamFault}
 use Rattle.streams.specs.declared.fault.StreamFault.TheVariants.{Points}
 use Rattle.streams.specs.Ahead.{Ahead, ends, fails, gives, give_all, one_more, read_ahead}
-use Rattle.streams.specs.Points.{gaps_held, gap-ahead, gaps-ahead, control-ahead, runs-ahead, points-from, PastRuns}
-use Rattle.streams.proofs.Steps.{Exactly, exact-length}
-use Rattle.streams.proofs.Readings.{read_all, read_none, read-if, push, whole, after_byte, after_word}
-use Rattle.streams.proofs.PointSteps.{exact-points}
+use Rattle.streams.specs.Points.{gaps_held, gap_ahead, gaps_ahead, control_ahead, runs_ahead, points_from, PastRuns}
+use Rattle.streams.proofs.Steps.{Exactly, exact_length}
+use Rattle.streams.proofs.Readings.{read_all, read_none, read_if, push, whole, after_byte, after_word}
+use Rattle.streams.proofs.PointSteps.{exact_points}
 
 -- the least point that may follow
 abbrev next_low : ℕ → List ℕ → ℕ
@@ -23,26 +23,26 @@ low_after q (r ∷ qs) = refl
 
 module _ (d : ℕ → ℕ → Declined) (p : ℕ) (bs : List ℕ) where
   -- the points of a run with its control at `control`, and what is read from the place past it
-  abbrev from-run : ℕ → ℕ → ℕ → Option (List ℕ × List ℕ) → (ℕ → ℕ → List ℕ → ℕ → Read (Rest (List ℕ))) → ℕ → Read (Rest (List ℕ))
-  from-run control from low none follow past = fault (d 22 control)
-  from-run control from low (some r) follow past =
+  abbrev from_run : ℕ → ℕ → ℕ → Option (List ℕ × List ℕ) → (ℕ → ℕ → List ℕ → ℕ → Read (Rest (List ℕ))) → ℕ → Read (Rest (List ℕ))
+  from_run control from low none follow past = fault (d 22 control)
+  from_run control from low (some r) follow past =
       fault_if (not (rises low p (points_after from r.0))) (d 22 control)
       (and_then (follow (last_of from (points_after from r.0)) (next_low low (points_after from r.0)) r.1 past)
       (λ s. found (rest (points_after from r.0 ++ s.value) s.left s.place)))
 
   -- a run is never empty
   run_is : (at from low g : ℕ) (o : Option (List ℕ × List ℕ)) (follow : ℕ → ℕ → List ℕ → ℕ → Read (Rest (List ℕ))) (size : ℕ) →
-      point-run d p from low at (cons_to g o) follow size ≡ from-run at from low (cons_to g o) follow (at + size)
+      point_run d p from low at (cons_to g o) follow size ≡ from_run at from low (cons_to g o) follow (at + size)
   run_is at from low g none follow size = refl
   run_is at from low g (some r) follow size = refl
 
-  gaps-are : (w : Bool) (n : ℕ) (xs : List ℕ) (at from low : ℕ) (follow : ℕ → ℕ → List ℕ → ℕ → Read (Rest (List ℕ))) (size : ℕ) →
-      point-run d p from low at (read_gaps w (suc n) xs) follow size ≡ from-run at from low (read_gaps w (suc n) xs) follow (at + size)
-  gaps-are false n [] at from low follow size = refl
-  gaps-are false n (b ∷ xs) at from low follow size = run_is at from low b (read_bytes (λ g. g) n xs) follow size
-  gaps-are true n [] at from low follow size = refl
-  gaps-are true n (b ∷ []) at from low follow size = refl
-  gaps-are true n (b ∷ (b' ∷ xs)) at from low follow size = run_is at from low (pair b b') (read_words (λ g. g) n xs) follow size
+  gaps_are : (w : Bool) (n : ℕ) (xs : List ℕ) (at from low : ℕ) (follow : ℕ → ℕ → List ℕ → ℕ → Read (Rest (List ℕ))) (size : ℕ) →
+      point_run d p from low at (read_gaps w (suc n) xs) follow size ≡ from_run at from low (read_gaps w (suc n) xs) follow (at + size)
+  gaps_are false n [] at from low follow size = refl
+  gaps_are false n (b ∷ xs) at from low follow size = run_is at from low b (read_bytes (λ g. g) n xs) follow size
+  gaps_are true n [] at from low follow size = refl
+  gaps_are true n (b ∷ []) at from low follow size = refl
+  gaps_are true n (b ∷ (b' ∷ xs)) at from low follow size = run_is at from low (pair b b') (read_words (λ g. g) n xs) follow size
 
   same : (b : Bool) (x : Declined) → fault_if {X = Rest (List ℕ)} b x (fault x) ≡ fault x
   same true x = refl
@@ -59,8 +59,8 @@ module _ (d : ℕ → ℕ → Declined) (p : ℕ) (bs : List ℕ) where
   module _ (control : ℕ) (more : ℕ → ℕ → ℕ → Ahead ℕ) (follow : ℕ → ℕ → List ℕ → ℕ → Read (Rest (List ℕ)))
       (h : (q l past : ℕ) → read_ahead d bs (more q l past) ≡ follow q l (drop past bs) past) where
     from_cons : (from low g : ℕ) (o : Option (List ℕ × List ℕ)) (past : ℕ) →
-        from-run control from low (cons_to g o) follow past
-        ≡ fault_if (not (rises low p ((from + g) ∷ []))) (d 22 control) (one_more (from + g) (from-run control (from + g) (suc (from + g)) o follow past))
+        from_run control from low (cons_to g o) follow past
+        ≡ fault_if (not (rises low p ((from + g) ∷ []))) (d 22 control) (one_more (from + g) (from_run control (from + g) (suc (from + g)) o follow past))
     from_cons from low g none past = sym (same (not (rises low p ((from + g) ∷ []))) (d 22 control))
     from_cons from low g (some r) past =
         let qs = points_after (from + g) r.0 in
@@ -68,78 +68,78 @@ module _ (d : ℕ → ℕ → Declined) (p : ℕ) (bs : List ℕ) where
         (tests (leb low (from + g)) (ltb (from + g) p) (rises (suc (from + g)) p qs) (d 22 control) (from + g) qs (follow (last_of (from + g) qs) (suc (last_of (from + g) qs)) r.1 past))
 
     -- a gap is read, and the rest of its run
-    gap-read : (from low g : ℕ) (a : Ahead ℕ) (o : Option (List ℕ × List ℕ)) (past : ℕ) → read_ahead d bs a ≡ from-run control (from + g) (suc (from + g)) o follow past →
-        read_ahead d bs (gap-ahead p bs control from low (some (g ∷ [], [])) (λ q. a)) ≡ from-run control from low (cons_to g o) follow past
-    gap-read from low g a o past i =
-        read-if d bs (not (rises low p ((from + g) ∷ []))) (Points control) (gives (from + g) a)
+    gap_read : (from low g : ℕ) (a : Ahead ℕ) (o : Option (List ℕ × List ℕ)) (past : ℕ) → read_ahead d bs a ≡ from_run control (from + g) (suc (from + g)) o follow past →
+        read_ahead d bs (gap_ahead p bs control from low (some (g ∷ [], [])) (λ q. a)) ≡ from_run control from low (cons_to g o) follow past
+    gap_read from low g a o past i =
+        read_if d bs (not (rises low p ((from + g) ∷ []))) (Points control) (gives (from + g) a)
         ∙ ap (λ r. fault_if (not (rises low p ((from + g) ∷ []))) (d 22 control) (one_more (from + g) r)) i
         ∙ sym (from_cons from low g o past)
 
-    bytes_read : (n from low at : ℕ) → read_ahead d bs (gaps-ahead p bs false control n from low at more) ≡ from-run control from low (read_bytes (λ g. g) n (drop at bs)) follow (at + n)
+    bytes_read : (n from low at : ℕ) → read_ahead d bs (gaps_ahead p bs false control n from low at more) ≡ from_run control from low (read_bytes (λ g. g) n (drop at bs)) follow (at + n)
     bytes_read zero from low at = rw add-zero (h from low at ∙ sym (whole (follow from low (drop at bs) at)))
     bytes_read (suc n) from low at = by (drop at bs) refl (λ q. bytes_read n q (suc q) (at + 1))
       where
         by : (l : List ℕ) → drop at bs ≡ l →
-            ((q : ℕ) → read_ahead d bs (gaps-ahead p bs false control n q (suc q) (at + 1) more) ≡ from-run control q (suc q) (read_bytes (λ g. g) n (drop (at + 1) bs)) follow (at + 1 + n)) →
-            read_ahead d bs (gap-ahead p bs control from low (read_bytes (λ g. g) 1 l) (λ q. gaps-ahead p bs false control n q (suc q) (at + 1) more))
-            ≡ from-run control from low (read_bytes (λ g. g) (suc n) l) follow (at + suc n)
+            ((q : ℕ) → read_ahead d bs (gaps_ahead p bs false control n q (suc q) (at + 1) more) ≡ from_run control q (suc q) (read_bytes (λ g. g) n (drop (at + 1) bs)) follow (at + 1 + n)) →
+            read_ahead d bs (gap_ahead p bs control from low (read_bytes (λ g. g) 1 l) (λ q. gaps_ahead p bs false control n q (suc q) (at + 1) more))
+            ≡ from_run control from low (read_bytes (λ g. g) (suc n) l) follow (at + suc n)
         by [] e i = refl
         by (b ∷ r) e i =
             let f : at + suc n ≡ at + 1 + n = omega arith in
             rw (f, ← after_byte bs at b r e)
-            (gap-read from low b (gaps-ahead p bs false control n (from + b) (suc (from + b)) (at + 1) more) (read_bytes (λ g. g) n (drop (at + 1) bs)) (at + 1 + n) (i (from + b)))
+            (gap_read from low b (gaps_ahead p bs false control n (from + b) (suc (from + b)) (at + 1) more) (read_bytes (λ g. g) n (drop (at + 1) bs)) (at + 1 + n) (i (from + b)))
 
-    words-read : (n from low at : ℕ) → read_ahead d bs (gaps-ahead p bs true control n from low at more) ≡ from-run control from low (read_words (λ g. g) n (drop at bs)) follow (at + 2 * n)
-    words-read zero from low at = rw add-zero (h from low at ∙ sym (whole (follow from low (drop at bs) at)))
-    words-read (suc n) from low at = by (drop at bs) refl (λ q. words-read n q (suc q) (at + 2))
+    words_read : (n from low at : ℕ) → read_ahead d bs (gaps_ahead p bs true control n from low at more) ≡ from_run control from low (read_words (λ g. g) n (drop at bs)) follow (at + 2 * n)
+    words_read zero from low at = rw add-zero (h from low at ∙ sym (whole (follow from low (drop at bs) at)))
+    words_read (suc n) from low at = by (drop at bs) refl (λ q. words_read n q (suc q) (at + 2))
       where
         by : (l : List ℕ) → drop at bs ≡ l →
-            ((q : ℕ) → read_ahead d bs (gaps-ahead p bs true control n q (suc q) (at + 2) more) ≡ from-run control q (suc q) (read_words (λ g. g) n (drop (at + 2) bs)) follow (at + 2 + 2 * n)) →
-            read_ahead d bs (gap-ahead p bs control from low (read_words (λ g. g) 1 l) (λ q. gaps-ahead p bs true control n q (suc q) (at + 2) more))
-            ≡ from-run control from low (read_words (λ g. g) (suc n) l) follow (at + 2 * suc n)
+            ((q : ℕ) → read_ahead d bs (gaps_ahead p bs true control n q (suc q) (at + 2) more) ≡ from_run control q (suc q) (read_words (λ g. g) n (drop (at + 2) bs)) follow (at + 2 + 2 * n)) →
+            read_ahead d bs (gap_ahead p bs control from low (read_words (λ g. g) 1 l) (λ q. gaps_ahead p bs true control n q (suc q) (at + 2) more))
+            ≡ from_run control from low (read_words (λ g. g) (suc n) l) follow (at + 2 * suc n)
         by [] e i = refl
         by (b ∷ []) e i = refl
         by (b ∷ (b' ∷ r)) e i =
             let g = pair b b' in
             let f : at + 2 * suc n ≡ at + 2 + 2 * n = omega arith in
             rw (f, ← after_word bs at b b' r e)
-            (gap-read from low g (gaps-ahead p bs true control n (from + g) (suc (from + g)) (at + 2) more) (read_words (λ g. g) n (drop (at + 2) bs)) (at + 2 + 2 * n) (i (from + g)))
+            (gap_read from low g (gaps_ahead p bs true control n (from + g) (suc (from + g)) (at + 2) more) (read_words (λ g. g) n (drop (at + 2) bs)) (at + 2 + 2 * n) (i (from + g)))
 
-    gaps-read : (w : Bool) (n from low at : ℕ) → read_ahead d bs (gaps-ahead p bs w control n from low at more) ≡ from-run control from low (read_gaps w n (drop at bs)) follow (at + gaps_held w n)
-    gaps-read false n from low at = bytes_read n from low at
-    gaps-read true n from low at = words-read n from low at
+    gaps_read : (w : Bool) (n from low at : ℕ) → read_ahead d bs (gaps_ahead p bs w control n from low at more) ≡ from_run control from low (read_gaps w n (drop at bs)) follow (at + gaps_held w n)
+    gaps_read false n from low at = bytes_read n from low at
+    gaps_read true n from low at = words_read n from low at
 
-  runs-read : (m k from low at : ℕ) → read_ahead d bs (runs-ahead p bs m k from low at) ≡ point-runs d m p k from low (drop at bs) at
-  runs-read zero k from low at = refl
-  runs-read (suc m) zero from low at = refl
-  runs-read (suc m) (suc k) from low at = by (drop at bs) refl (λ n q l past. runs-read m (k - n) q l past)
+  runs_read : (m k from low at : ℕ) → read_ahead d bs (runs_ahead p bs m k from low at) ≡ point_runs d m p k from low (drop at bs) at
+  runs_read zero k from low at = refl
+  runs_read (suc m) zero from low at = refl
+  runs_read (suc m) (suc k) from low at = by (drop at bs) refl (λ n q l past. runs_read m (k - n) q l past)
     where
-      by : (xs : List ℕ) → drop at bs ≡ xs → ((n q l past : ℕ) → read_ahead d bs (runs-ahead p bs m (k - n) q l past) ≡ point-runs d m p (k - n) q l (drop past bs) past) →
-          read_ahead d bs (control-ahead p bs xs at (suc k) from low (λ n q l past. runs-ahead p bs m (k - n) q l past)) ≡ point-runs d (suc m) p (suc k) from low xs at
+      by : (xs : List ℕ) → drop at bs ≡ xs → ((n q l past : ℕ) → read_ahead d bs (runs_ahead p bs m (k - n) q l past) ≡ point_runs d m p (k - n) q l (drop past bs) past) →
+          read_ahead d bs (control_ahead p bs xs at (suc k) from low (λ n q l past. runs_ahead p bs m (k - n) q l past)) ≡ point_runs d (suc m) p (suc k) from low xs at
       by [] e i = refl
       by (c ∷ r) e i =
           let n = c % 128 in
           let w = leb 128 c in
           let s : suc k - suc n ≡ k - n = omega arith in
           let f : at + 1 + gaps_held w (suc n) ≡ at + (1 + gaps_held w (suc n)) = omega arith in
-          let follow : ℕ → ℕ → List ℕ → ℕ → Read (Rest (List ℕ)) = λ q l b a. point-runs d m p (k - n) q l b a in
+          let follow : ℕ → ℕ → List ℕ → ℕ → Read (Rest (List ℕ)) = λ q l b a. point_runs d m p (k - n) q l b a in
           rw (s, ← after_byte bs at c r e)
-          (read-if d bs (ltb (suc k) (suc n)) (Points at) (gaps-ahead p bs w at (suc n) from low (at + 1) (λ q l past. runs-ahead p bs m (k - n) q l past))
+          (read_if d bs (ltb (suc k) (suc n)) (Points at) (gaps_ahead p bs w at (suc n) from low (at + 1) (λ q l past. runs_ahead p bs m (k - n) q l past))
           ∙ ap (fault_if (ltb (suc k) (suc n)) (d 22 at))
-          ((rw f at (gaps-read at (λ q l past. runs-ahead p bs m (k - n) q l past) follow (i n) w (suc n) from low (at + 1)))
-          ∙ sym (gaps-are w n (drop (at + 1) bs) at from low follow (1 + gaps_held w (suc n)))))
+          ((rw f at (gaps_read at (λ q l past. runs_ahead p bs m (k - n) q l past) follow (i n) w (suc n) from low (at + 1)))
+          ∙ sym (gaps_are w n (drop (at + 1) bs) at from low follow (1 + gaps_held w (suc n)))))
 
-  pub points-read : (k at : ℕ) → read_ahead d bs (points-from p bs k at) ≡ point-runs d k p k 0 0 (drop at bs) at
-  points-read k at = runs-read k k 0 0 at
+  pub points_read : (k at : ℕ) → read_ahead d bs (points_from p bs k at) ≡ point_runs d k p k 0 0 (drop at bs) at
+  points_read k at = runs_read k k 0 0 at
 
 -- the place past a stream that ends, and the fault of one that does not
-pub past_ends : (bs : List ℕ) (at p k : ℕ) (qs : List ℕ) (past place : ℕ) → points-from p bs k at ≡ give_all qs (ends past) → place ≡ past → PastRuns bs at p k (Ok place)
+pub past_ends : (bs : List ℕ) (at p k : ℕ) (qs : List ℕ) (past place : ℕ) → points_from p bs k at ≡ give_all qs (ends past) → place ≡ past → PastRuns bs at p k (Ok place)
 past_ends bs at p k qs past place e i =
     rw i (
       qs,
-      (λ d. sym (points-read d p bs k at) ∙ ap (read_ahead d bs) e ∙ read_all d bs qs past),
-      exact-length qs past k (subst (λ (a : Ahead ℕ). Exactly a k) e (exact-points p bs k 0 0 at)),
+      (λ d. sym (points_read d p bs k at) ∙ ap (read_ahead d bs) e ∙ read_all d bs qs past),
+      exact_length qs past k (subst (λ (a : Ahead ℕ). Exactly a k) e (exact_points p bs k 0 0 at)),
     )
 
-pub past_fails : (bs : List ℕ) (at p k : ℕ) (qs : List ℕ) (f : StreamFault) → points-from p bs k at ≡ give_all qs (fails f) → PastRuns bs at p k (Err f)
-past_fails bs at p k qs f e d = sym (points-read d p bs k at) ∙ ap (read_ahead d bs) e ∙ read_none d bs qs f
+pub past_fails : (bs : List ℕ) (at p k : ℕ) (qs : List ℕ) (f : StreamFault) → points_from p bs k at ≡ give_all qs (fails f) → PastRuns bs at p k (Err f)
+past_fails bs at p k qs f e d = sym (points_read d p bs k at) ∙ ap (read_ahead d bs) e ∙ read_none d bs qs f

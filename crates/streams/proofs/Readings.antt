@@ -16,9 +16,9 @@ module _ {X : Type 0} where
   read_none d bs [] f = refl
   read_none d bs (x ∷ xs) f = ap (one_more x) (read_none d bs xs f)
 
-  pub read-if : (d : ℕ → ℕ → Declined) (bs : List ℕ) (b : Bool) (f : StreamFault) (a : Ahead X) → read_ahead d bs (fails_if b f a) ≡ fault_if b (stream_declined d f) (read_ahead d bs a)
-  read-if d bs true f a = refl
-  read-if d bs false f a = refl
+  pub read_if : (d : ℕ → ℕ → Declined) (bs : List ℕ) (b : Bool) (f : StreamFault) (a : Ahead X) → read_ahead d bs (fails_if b f a) ≡ fault_if b (stream_declined d f) (read_ahead d bs a)
+  read_if d bs true f a = refl
+  read_if d bs false f a = refl
 
   -- values in front of a reading
   pub push : (x : X) (xs : List X) (r : Read (Rest (List X))) →

@@ -29,9 +29,9 @@ module _ {X : Type 0} where
   failed (gives y a) f e = cc
 
   -- one value more was given
-  pub give-more : (xs : List X) (x : X) (a : Ahead X) → give_all xs (gives x a) ≡ give_all (xs ++ (x ∷ [])) a
-  give-more [] x a = refl
-  give-more (y ∷ xs) x a = ap (gives y) (give-more xs x a)
+  pub give_more : (xs : List X) (x : X) (a : Ahead X) → give_all xs (gives x a) ≡ give_all (xs ++ (x ∷ [])) a
+  give_more [] x a = refl
+  give_more (y ∷ xs) x a = ap (gives y) (give_more xs x a)
 
   -- if the stream ends, it gives k values
   abbrev pub Exactly : Ahead X → ℕ → Type 0
@@ -40,15 +40,15 @@ module _ {X : Type 0} where
   Exactly (gives x a) zero = ⊥
   Exactly (gives x a) (suc k) = Exactly a k
 
-  pub exact-length : (xs : List X) (past k : ℕ) → Exactly (give_all xs (ends past)) k → length xs ≡ k
-  exact-length [] past k h = sym h
-  exact-length (x ∷ xs) past zero h = absurd h
-  exact-length (x ∷ xs) past (suc k) h = ap suc (exact-length xs past k h)
+  pub exact_length : (xs : List X) (past k : ℕ) → Exactly (give_all xs (ends past)) k → length xs ≡ k
+  exact_length [] past k h = sym h
+  exact_length (x ∷ xs) past zero h = absurd h
+  exact_length (x ∷ xs) past (suc k) h = ap suc (exact_length xs past k h)
 
-  pub exact-if : (b : Bool) (f : StreamFault) (a : Ahead X) (k : ℕ) → Exactly a k → Exactly (fails_if b f a) k
-  exact-if true f a k h = tt
-  exact-if false f a k h = h
+  pub exact_if : (b : Bool) (f : StreamFault) (a : Ahead X) (k : ℕ) → Exactly a k → Exactly (fails_if b f a) k
+  exact_if true f a k h = tt
+  exact_if false f a k h = h
 
   -- no end comes before the values do
-  pub not-ended : (a : Ahead X) (past k : ℕ) → Exactly a (suc k) → a ≡ ends past → ⊥
-  not-ended a past k h e = let z : suc k ≡ 0 = subst (λ (t : Ahead X). Exactly t (suc k)) e h in omega arith
+  pub not_ended : (a : Ahead X) (past k : ℕ) → Exactly a (suc k) → a ≡ ends past → ⊥
+  not_ended a past k h e = let z : suc k ≡ 0 = subst (λ (t : Ahead X). Exactly t (suc k)) e h in omega arith

@@ -3,7 +3,7 @@ use Rattle.std.specs.Prelude.{◌≡◌, ℕ, zero, suc, ◌+◌, ◌-◌, ◌%�
 use Rattle.std.proofs.Math.Option.{Option, none, some}
 use Rattle.format.specs.Account.{Declined}
 use Rattle.format.specs.Packed.{Kind, zeros, bytes, words}
-use Rattle.format.specs.Streams.{rest, found, fault, read_values, run_kind, held, read-deltas}
+use Rattle.format.specs.Streams.{rest, found, fault, read_values, run_kind, held, read_deltas}
 use Rattle.streams.specs.declared.fault.StreamFault.{StreamFault}
 use Rattle.streams.specs.declared.fault.StreamFault.TheVariants.{Deltas}
 use Rattle.streams.specs.declared.deltas.RunKind.{RunKind}
@@ -21,41 +21,41 @@ value_ahead control (some r) a = give_all r.0 a
 
 module _ (bs : List ℕ) where
   -- n values of a run from a place of the table on, then what comes from the place past them
-  abbrev pub run-ahead : Kind → ℕ → ℕ → ℕ → (ℕ → Ahead ℤ) → Ahead ℤ
-  run-ahead k control zero at more = more at
-  run-ahead k control (suc n) at more = value_ahead control (read_values k 1 (drop at bs)) (run-ahead k control n (at + held k 1) more)
+  abbrev pub run_ahead : Kind → ℕ → ℕ → ℕ → (ℕ → Ahead ℤ) → Ahead ℤ
+  run_ahead k control zero at more = more at
+  run_ahead k control (suc n) at more = value_ahead control (read_values k 1 (drop at bs)) (run_ahead k control n (at + held k 1) more)
 
   -- the run of a kind, if there is one, after its control
   abbrev pub kind_ahead : Option Kind → ℕ → ℕ → (ℕ → Ahead ℤ) → Ahead ℤ
   kind_ahead none at n more = fails (Deltas at)
-  kind_ahead (some k) at n more = run-ahead k at n (at + 1) more
+  kind_ahead (some k) at n more = run_ahead k at n (at + 1) more
 
   -- a run of at most k values by the control at its place; `more` comes after a run with so many values after its first
-  abbrev pub control-ahead : List ℕ → ℕ → ℕ → (ℕ → ℕ → Ahead ℤ) → Ahead ℤ
-  control-ahead [] at k more = fails (Deltas at)
-  control-ahead (c ∷ r) at k more = fails_if (nat_lt k (suc (c % 64))) (Deltas at) (kind_ahead (run_kind c) at (suc (c % 64)) (more (c % 64)))
+  abbrev pub control_ahead : List ℕ → ℕ → ℕ → (ℕ → ℕ → Ahead ℤ) → Ahead ℤ
+  control_ahead [] at k more = fails (Deltas at)
+  control_ahead (c ∷ r) at k more = fails_if (nat_lt k (suc (c % 64))) (Deltas at) (kind_ahead (run_kind c) at (suc (c % 64)) (more (c % 64)))
 
   -- the runs of k values; the first number bounds how many runs there are
-  abbrev pub runs-ahead : ℕ → ℕ → ℕ → Ahead ℤ
-  runs-ahead zero k at = ends at
-  runs-ahead (suc m) zero at = ends at
-  runs-ahead (suc m) (suc k) at = control-ahead (drop at bs) at (suc k) (λ n past. runs-ahead m (k - n) past)
+  abbrev pub runs_ahead : ℕ → ℕ → ℕ → Ahead ℤ
+  runs_ahead zero k at = ends at
+  runs_ahead (suc m) zero at = ends at
+  runs_ahead (suc m) (suc k) at = control_ahead (drop at bs) at (suc k) (λ n past. runs_ahead m (k - n) past)
 
   -- a stream of k deltas
-  abbrev pub deltas-from : ℕ → ℕ → Ahead ℤ
-  deltas-from k at = runs-ahead k k at
+  abbrev pub deltas_from : ℕ → ℕ → Ahead ℤ
+  deltas_from k at = runs_ahead k k at
 
   -- what a cursor in this state has ahead: the run that it is in, and `left` values after it
-  abbrev pub state-ahead : DeltaState → ℕ → ℕ → ℕ → Ahead ℤ
-  state-ahead Between control at left = deltas-from left at
-  state-ahead (Zeros n) control at left = run-ahead zeros control (suc n) at (deltas-from left)
-  state-ahead (Bytes n) control at left = run-ahead bytes control (suc n) at (deltas-from left)
-  state-ahead (Words n) control at left = run-ahead words control (suc n) at (deltas-from left)
-  state-ahead Done control at left = ends at
+  abbrev pub state_ahead : DeltaState → ℕ → ℕ → ℕ → Ahead ℤ
+  state_ahead Between control at left = deltas_from left at
+  state_ahead (Zeros n) control at left = run_ahead zeros control (suc n) at (deltas_from left)
+  state_ahead (Bytes n) control at left = run_ahead bytes control (suc n) at (deltas_from left)
+  state_ahead (Words n) control at left = run_ahead words control (suc n) at (deltas_from left)
+  state_ahead Done control at left = ends at
 
 -- what a cursor has ahead
 abbrev pub deltas_ahead : DeltaCursor → Ahead ℤ
-deltas_ahead c = state-ahead c.table.now c.state c.control c.at c.left
+deltas_ahead c = state_ahead c.table.now c.state c.control c.at c.left
 
 -- one call: its answer and what it leaves
 pub record DeltaStep (c : DeltaCursor) (r : Result (Maybe ℤ) StreamFault) (c' : DeltaCursor) : Type 0 where
@@ -80,5 +80,5 @@ run_state k n = cond (n == 0) Between (in_run k (n - 1))
 -- the place past k deltas, or their fault
 abbrev pub PastDeltas : List ℕ → ℕ → ℕ → Result ℕ StreamFault → Type 0
 PastDeltas bs at k (Ok past) =
-    (vs : List ℤ) × ((d : ℕ → ℕ → Declined) → read-deltas d k (drop at bs) at ≡ found (rest vs (drop past bs) past)) × (length vs ≡ k)
-PastDeltas bs at k (Err f) = (d : ℕ → ℕ → Declined) → read-deltas d k (drop at bs) at ≡ fault (stream_declined d f)
+    (vs : List ℤ) × ((d : ℕ → ℕ → Declined) → read_deltas d k (drop at bs) at ≡ found (rest vs (drop past bs) past)) × (length vs ≡ k)
+PastDeltas bs at k (Err f) = (d : ℕ → ℕ → Declined) → read_deltas d k (drop at bs) at ≡ fault (stream_declined d f)

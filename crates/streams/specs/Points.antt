@@ -5,7 +5,7 @@ use Rattle.format.specs.Account.{Declined}
 use Rattle.format.specs.Bytes.{pair}
 use Rattle.format.specs.Packed.{every}
 use Rattle.format.specs.Packed.{Points as Point-set}
-use Rattle.format.specs.Streams.{Rest, rest, Read, found, fault, read_gaps, points_after, last_of, rises, point-runs, counted-points, read-points}
+use Rattle.format.specs.Streams.{Rest, rest, Read, found, fault, read_gaps, points_after, last_of, rises, point_runs, counted_points, read_points}
 use Rattle.format.specs.Reader.{points_of}
 use Rattle.streams.specs.declared.fault.StreamFault.{StreamFault}
 use Rattle.streams.specs.declared.fault.StreamFault.TheVariants.{Points}
@@ -24,44 +24,44 @@ gaps_held wide n = cond wide (2 * n) n
 -- points below p in the table bs
 module _ (p : ℕ) (bs : List ℕ) where
   -- the point at a gap from the last one, if its bytes are there and it fits, and what comes after it
-  abbrev pub gap-ahead : ℕ → ℕ → ℕ → Option (List ℕ × List ℕ) → (ℕ → Ahead ℕ) → Ahead ℕ
-  gap-ahead control from low none more = fails (Points control)
-  gap-ahead control from low (some r) more =
+  abbrev pub gap_ahead : ℕ → ℕ → ℕ → Option (List ℕ × List ℕ) → (ℕ → Ahead ℕ) → Ahead ℕ
+  gap_ahead control from low none more = fails (Points control)
+  gap_ahead control from low (some r) more =
       let qs = points_after from r.0 in
       fails_if (not (rises low p qs)) (Points control) (give_all qs (more (last_of from qs)))
 
   -- the points of a run with n gaps, then what comes from the last point and the place past the run
-  abbrev pub gaps-ahead : Bool → ℕ → ℕ → ℕ → ℕ → ℕ → (ℕ → ℕ → ℕ → Ahead ℕ) → Ahead ℕ
-  gaps-ahead wide control zero from low at more = more from low at
-  gaps-ahead wide control (suc n) from low at more =
-      gap-ahead control from low (read_gaps wide 1 (drop at bs)) (λ q. gaps-ahead wide control n q (suc q) (at + gaps_held wide 1) more)
+  abbrev pub gaps_ahead : Bool → ℕ → ℕ → ℕ → ℕ → ℕ → (ℕ → ℕ → ℕ → Ahead ℕ) → Ahead ℕ
+  gaps_ahead wide control zero from low at more = more from low at
+  gaps_ahead wide control (suc n) from low at more =
+      gap_ahead control from low (read_gaps wide 1 (drop at bs)) (λ q. gaps_ahead wide control n q (suc q) (at + gaps_held wide 1) more)
 
   -- a run of at most k points by the control at its place; `more` comes after a run with so many points after its first
-  abbrev pub control-ahead : List ℕ → ℕ → ℕ → ℕ → ℕ → (ℕ → ℕ → ℕ → ℕ → Ahead ℕ) → Ahead ℕ
-  control-ahead [] at k from low more = fails (Points at)
-  control-ahead (c ∷ r) at k from low more =
-      fails_if (nat_lt k (suc (c % 128))) (Points at) (gaps-ahead (nat_le 128 c) at (suc (c % 128)) from low (at + 1) (more (c % 128)))
+  abbrev pub control_ahead : List ℕ → ℕ → ℕ → ℕ → ℕ → (ℕ → ℕ → ℕ → ℕ → Ahead ℕ) → Ahead ℕ
+  control_ahead [] at k from low more = fails (Points at)
+  control_ahead (c ∷ r) at k from low more =
+      fails_if (nat_lt k (suc (c % 128))) (Points at) (gaps_ahead (nat_le 128 c) at (suc (c % 128)) from low (at + 1) (more (c % 128)))
 
   -- the runs of k points; the first number bounds how many runs there are
-  abbrev pub runs-ahead : ℕ → ℕ → ℕ → ℕ → ℕ → Ahead ℕ
-  runs-ahead zero k from low at = ends at
-  runs-ahead (suc m) zero from low at = ends at
-  runs-ahead (suc m) (suc k) from low at = control-ahead (drop at bs) at (suc k) from low (λ n q l past. runs-ahead m (k - n) q l past)
+  abbrev pub runs_ahead : ℕ → ℕ → ℕ → ℕ → ℕ → Ahead ℕ
+  runs_ahead zero k from low at = ends at
+  runs_ahead (suc m) zero from low at = ends at
+  runs_ahead (suc m) (suc k) from low at = control_ahead (drop at bs) at (suc k) from low (λ n q l past. runs_ahead m (k - n) q l past)
 
   -- a stream of k points
-  abbrev pub points-from : ℕ → ℕ → Ahead ℕ
-  points-from k at = runs-ahead k k 0 0 at
+  abbrev pub points_from : ℕ → ℕ → Ahead ℕ
+  points_from k at = runs_ahead k k 0 0 at
 
   -- what a cursor in this state has ahead: the run that it is in, and `left` points after it
-  abbrev pub state-ahead : PointState → ℕ → ℕ → ℕ → ℕ → ℕ → Ahead ℕ
-  state-ahead Between from low control at left = runs-ahead left left from low at
-  state-ahead (Bytes n) from low control at left = gaps-ahead false control (suc n) from low at (runs-ahead left left)
-  state-ahead (Words n) from low control at left = gaps-ahead true control (suc n) from low at (runs-ahead left left)
-  state-ahead Done from low control at left = ends at
+  abbrev pub state_ahead : PointState → ℕ → ℕ → ℕ → ℕ → ℕ → Ahead ℕ
+  state_ahead Between from low control at left = runs_ahead left left from low at
+  state_ahead (Bytes n) from low control at left = gaps_ahead false control (suc n) from low at (runs_ahead left left)
+  state_ahead (Words n) from low control at left = gaps_ahead true control (suc n) from low at (runs_ahead left left)
+  state_ahead Done from low control at left = ends at
 
 -- what a cursor has ahead
 abbrev pub points_ahead : PointCursor → Ahead ℕ
-points_ahead c = state-ahead c.p c.table.now c.state c.from c.low c.control c.at c.left
+points_ahead c = state_ahead c.p c.table.now c.state c.from c.low c.control c.at c.left
 
 -- one call: its answer and what it leaves
 pub record PointStep (c : PointCursor) (r : Result (Maybe ℕ) StreamFault) (c' : PointCursor) : Type 0 where
@@ -108,7 +108,7 @@ count_in (c ∷ r) at = cond (nat_lt c 128) (Ok (counted c (at + 1))) (two_byte_
 -- the points by their count, 0 for every point
 abbrev pub by_count : (ℕ → ℕ → Declined) → ℕ → List ℕ → ℕ → ℕ → Read (Rest Point-set)
 by_count d p bs zero past = found (rest every (drop past bs) past)
-by_count d p bs (suc n) past = counted-points d p (suc n) (drop past bs) past
+by_count d p bs (suc n) past = counted_points d p (suc n) (drop past bs) past
 
 -- what is read after the count was
 abbrev pub after_count : (ℕ → ℕ → Declined) → ℕ → List ℕ → Result PointCount StreamFault → Read (Rest Point-set)
@@ -118,16 +118,16 @@ after_count d p bs (Err f) = fault (stream_declined d f)
 -- the place past k points, or their fault
 abbrev pub PastRuns : List ℕ → ℕ → ℕ → ℕ → Result ℕ StreamFault → Type 0
 PastRuns bs at p k (Ok past) =
-    (qs : List ℕ) × ((d : ℕ → ℕ → Declined) → point-runs d k p k 0 0 (drop at bs) at ≡ found (rest qs (drop past bs) past)) × (length qs ≡ k)
-PastRuns bs at p k (Err f) = (d : ℕ → ℕ → Declined) → point-runs d k p k 0 0 (drop at bs) at ≡ fault (stream_declined d f)
+    (qs : List ℕ) × ((d : ℕ → ℕ → Declined) → point_runs d k p k 0 0 (drop at bs) at ≡ found (rest qs (drop past bs) past)) × (length qs ≡ k)
+PastRuns bs at p k (Err f) = (d : ℕ → ℕ → Declined) → point_runs d k p k 0 0 (drop at bs) at ≡ fault (stream_declined d f)
 
 -- how many points a set of points has, and the place past it
 pub record SetRead (bs : List ℕ) (at p : ℕ) (s : PointSet) : Type 0 where
   pub set : Point-set
-  pub is_read : (d : ℕ → ℕ → Declined) → read-points d p (drop at bs) at ≡ found (rest set (drop s.past bs) s.past)
+  pub is_read : (d : ℕ → ℕ → Declined) → read_points d p (drop at bs) at ≡ found (rest set (drop s.past bs) s.past)
   pub number : length (points_of p set) ≡ s.size
 
 -- a set of points as it is read, or its fault
 abbrev pub PastPoints : List ℕ → ℕ → ℕ → Result PointSet StreamFault → Type 0
 PastPoints bs at p (Ok s) = SetRead bs at p s
-PastPoints bs at p (Err f) = (d : ℕ → ℕ → Declined) → read-points d p (drop at bs) at ≡ fault (stream_declined d f)
+PastPoints bs at p (Err f) = (d : ℕ → ℕ → Declined) → read_points d p (drop at bs) at ≡ fault (stream_declined d f)

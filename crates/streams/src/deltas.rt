@@ -1,9 +1,9 @@
 // A stream of packed deltas.
 ghost use Rattle.std.specs.Prelude.{◌≡◌, ℕ, drop};
 ghost use Rattle.format.specs.Account.{Declined};
-ghost use Rattle.format.specs.Streams.{read-deltas};
+ghost use Rattle.format.specs.Streams.{read_deltas};
 ghost use Rattle.streams.specs.Ahead.{ends, read_ahead};
-ghost use Rattle.streams.specs.Deltas.{kind_in, run_state, deltas-from, deltas_ahead, DeltaStep, PastDeltas};
+ghost use Rattle.streams.specs.Deltas.{kind_in, run_state, deltas_from, deltas_ahead, DeltaStep, PastDeltas};
 ghost use Rattle.streams.specs.declared.deltas.DeltaState.TheVariants.{Between, Zeros, Bytes, Words};
 
 use crate::fault::StreamFault;
@@ -64,8 +64,8 @@ impl<'a> DeltaCursor<'a> {
     // Over `count` deltas from the place `at` of the table on.
     pub fn new(table: &'a [u8], at: usize, count: u16) -> DeltaCursor<'a>
         ensures table { result.table.now ≡ table.now }
-        ensures ahead { deltas_ahead result ≡ deltas-from table.now count at }
-        ensures read { (d : ℕ → ℕ → Declined) → read_ahead d table.now (deltas_ahead result) ≡ read-deltas d count (drop at table.now) at }
+        ensures ahead { deltas_ahead result ≡ deltas_from table.now count at }
+        ensures read { (d : ℕ → ℕ → Declined) → read_ahead d table.now (deltas_ahead result) ≡ read_deltas d count (drop at table.now) at }
     {
         DeltaCursor {
             table,

@@ -1,9 +1,9 @@
 // A stream of packed points.
 ghost use Rattle.std.specs.Prelude.{◌≡◌, ℕ, drop};
 ghost use Rattle.format.specs.Account.{Declined};
-ghost use Rattle.format.specs.Streams.{point-runs, read-points};
+ghost use Rattle.format.specs.Streams.{point_runs, read_points};
 ghost use Rattle.streams.specs.Ahead.{ends, read_ahead};
-ghost use Rattle.streams.specs.Points.{count_in, after_count, gap_state, points-from, points_ahead, PointStep, GapStep, PastRuns, PastPoints};
+ghost use Rattle.streams.specs.Points.{count_in, after_count, gap_state, points_from, points_ahead, PointStep, GapStep, PastRuns, PastPoints};
 ghost use Rattle.streams.specs.declared.points.PointState.TheVariants.{Between, Bytes, Words};
 
 use crate::fault::StreamFault;
@@ -48,7 +48,7 @@ pub struct PointSet {
 // The count at the place `at` of the table.
 pub fn read_count(table: &[u8], at: usize) -> Result<PointCount, StreamFault>
     ensures count { result ≡ count_in (drop at table.now) at }
-    ensures read { (d : ℕ → ℕ → Declined) (p : ℕ) → read-points d p (drop at table.now) at ≡ after_count d p table.now result }
+    ensures read { (d : ℕ → ℕ → Declined) (p : ℕ) → read_points d p (drop at table.now) at ≡ after_count d p table.now result }
 {
     if at >= table.len() {
         return Err(StreamFault::Points(at));
@@ -91,8 +91,8 @@ impl<'a> PointCursor<'a> {
     // Over `count` points below p, from the place `at` of the table on.
     pub fn new(table: &'a [u8], at: usize, p: u16, count: u16) -> PointCursor<'a>
         ensures table { result.table.now ≡ table.now }
-        ensures ahead { points_ahead result ≡ points-from p table.now count at }
-        ensures read { (d : ℕ → ℕ → Declined) → read_ahead d table.now (points_ahead result) ≡ point-runs d count p count 0 0 (drop at table.now) at }
+        ensures ahead { points_ahead result ≡ points_from p table.now count at }
+        ensures read { (d : ℕ → ℕ → Declined) → read_ahead d table.now (points_ahead result) ≡ point_runs d count p count 0 0 (drop at table.now) at }
     {
         PointCursor {
             table,

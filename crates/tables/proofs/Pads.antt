@@ -9,14 +9,14 @@ padded_is true b = refl
 padded_is false b = sym (append-nil b)
 
 module _ (s : Bool) (b : List ℕ) where
-  pub with-pad : is_padded s (length b) ≡ true → padded s b ≡ b ++ (0 ∷ [])
-  with-pad e = padded_is s b ∙ ap (λ (t : Bool). b ++ cond {A = List ℕ} t (0 ∷ []) []) e
+  pub with_pad : is_padded s (length b) ≡ true → padded s b ≡ b ++ (0 ∷ [])
+  with_pad e = padded_is s b ∙ ap (λ (t : Bool). b ++ cond {A = List ℕ} t (0 ∷ []) []) e
 
-  pub without-pad : is_padded s (length b) ≡ false → padded s b ≡ b
-  without-pad e = padded_is s b ∙ ap (λ (t : Bool). b ++ cond {A = List ℕ} t (0 ∷ []) []) e ∙ append-nil b
+  pub without_pad : is_padded s (length b) ≡ false → padded s b ≡ b
+  without_pad e = padded_is s b ∙ ap (λ (t : Bool). b ++ cond {A = List ℕ} t (0 ∷ []) []) e ∙ append-nil b
 
-  pub size-with-pad : is_padded s (length b) ≡ true → length (padded s b) ≡ length b + 1
-  size-with-pad e = ap length (with-pad e) ∙ length-append b (0 ∷ [])
+  pub size_with_pad : is_padded s (length b) ≡ true → length (padded s b) ≡ length b + 1
+  size_with_pad e = ap length (with_pad e) ∙ length-append b (0 ∷ [])
 
 pub padded_odd : (s : Bool) (n : ℕ) → is_padded s n ≡ true → n % 2 ≡ 1
 padded_odd s n e = eqb-true (n % 2) 1 (and_parts s (eqb (n % 2) 1) e).1

@@ -28,9 +28,9 @@ total_next w f n =
     ap (λ (m : ℕ). total (map w (listed 0 m f))) a ∙ total_more w f 0 n n (omega arith)
 
 module _ (gs : List Glyph) where
-  pub summed-more : (n k : ℕ) (s t : Sums) → Summed gs n s → k ≡ length (glyph_at gs n) → k ≤ 17179869184 →
+  pub summed_more : (n k : ℕ) (s t : Sums) → Summed gs n s → k ≡ length (glyph_at gs n) → k ≤ 17179869184 →
       t.even ≡ s.even + (k + k % 2) → t.exact ≡ s.exact + k → Summed gs (n + 1) t
-  summed-more n k s t h q few e x =
+  summed_more n k s t h q few e x =
       let even-next = total_next (λ b. even (length b)) (glyph_at gs) n in
       let exact-next = total_next length (glyph_at gs) n in
       record {
@@ -55,25 +55,25 @@ module _ (gs : List Glyph) (s : Sums) (h : Summed gs (length gs) s) where
   unfolding glyph_at
   even_is = h.evens
 
-  exact-is : s.exact ≡ total (map length (glyphs_bytes gs))
+  exact_is : s.exact ≡ total (map length (glyphs_bytes gs))
   unfolding glyph_at
-  exact-is = h.exacts
+  exact_is = h.exacts
 
-  pub laid-not : 67108864 < s.even → 67108864 < even_total (glyphs_bytes gs)
-  laid-not l = subst (λ (n : ℕ). 67108864 < n) even_is l
+  pub laid_not : 67108864 < s.even → 67108864 < even_total (glyphs_bytes gs)
+  laid_not l = subst (λ (n : ℕ). 67108864 < n) even_is l
 
-  pub laid-short : (l : Layout) → s.even ≤ 67108864 → s.even / 2 ≤ 65535 → l.short ≡ true → l.slots ≡ s.even → Laid gs l
-  laid-short l few half e z =
+  pub laid_short : (l : Layout) → s.even ≤ 67108864 → s.even / 2 ≤ 65535 → l.short ≡ true → l.slots ≡ s.even → Laid gs l
+  laid_short l few half e z =
       record {
         form = e ∙ sym (le-leb (even_total (glyphs_bytes gs) / 2) 65535 (subst (λ (n : ℕ). n / 2 ≤ 65535) even_is half));
         size = z ∙ even_is ∙ sym (short_slots (glyphs_bytes gs)) ∙ ap (λ t. length (joined (map (padded t) (glyphs_bytes gs)))) (sym e);
         small = subst (λ (n : ℕ). n ≤ 67108864) even_is few;
       }
 
-  pub laid-long : (l : Layout) → s.even ≤ 67108864 → 65535 < s.even / 2 → l.short ≡ false → l.slots ≡ s.exact → Laid gs l
-  laid-long l few half e z =
+  pub laid_long : (l : Layout) → s.even ≤ 67108864 → 65535 < s.even / 2 → l.short ≡ false → l.slots ≡ s.exact → Laid gs l
+  laid_long l few half e z =
       record {
         form = e ∙ sym (lt-leb (even_total (glyphs_bytes gs) / 2) 65535 (subst (λ (n : ℕ). 65535 < n / 2) even_is half));
-        size = z ∙ exact-is ∙ sym (long_slots (glyphs_bytes gs)) ∙ ap (λ t. length (joined (map (padded t) (glyphs_bytes gs)))) (sym e);
+        size = z ∙ exact_is ∙ sym (long_slots (glyphs_bytes gs)) ∙ ap (λ t. length (joined (map (padded t) (glyphs_bytes gs)))) (sym e);
         small = subst (λ (n : ℕ). n ≤ 67108864) even_is few;
       }

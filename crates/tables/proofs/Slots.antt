@@ -11,9 +11,9 @@ use Rattle.format.proofs.Padded.{offsets_size}
 use Rattle.tables.specs.Parts.{glyph_at, slots_from, slots_data, offsets_data, width_of}
 
 module _ (s : Bool) (gs : List Glyph) where
-  slots-step : (n : ℕ) → n < length gs → slots_from s gs n ≡ padded s (glyph_at gs n) ∷ slots_from s gs (n + 1)
+  slots_step : (n : ℕ) → n < length gs → slots_from s gs n ≡ padded s (glyph_at gs n) ∷ slots_from s gs (n + 1)
   unfolding slots_from
-  slots-step n h =
+  slots_step n h =
       let m = length gs - (n + 1) in
       let e : length gs - n ≡ suc m = omega arith in
       let a : suc n ≡ n + 1 = omega arith in
@@ -26,29 +26,29 @@ module _ (s : Bool) (gs : List Glyph) where
       let e : length gs - n ≡ 0 = omega arith in
       ap (λ (k : ℕ). map (padded s) (listed n k (glyph_at gs))) e
 
-  pub slots-all : slots_from s gs 0 ≡ map (padded s) (glyphs_bytes gs)
+  pub slots_all : slots_from s gs 0 ≡ map (padded s) (glyphs_bytes gs)
   unfolding slots_from glyph_at
-  slots-all =
+  slots_all =
       let e : length gs - 0 ≡ length gs = omega arith in
       ap (λ (k : ℕ). map (padded s) (listed 0 k (glyph_at gs))) e
 
-  slots-count : length (slots_from s gs 0) ≡ length gs
+  slots_count : length (slots_from s gs 0) ≡ length gs
   unfolding slots_from
-  slots-count =
+  slots_count =
       let e : length gs - 0 ≡ length gs = omega arith in
       length-map (listed 0 (length gs - 0) (glyph_at gs)) (padded s) ∙ length_listed 0 (length gs - 0) (glyph_at gs) ∙ e
 
-  pub offsets-sized : length (offsets_data s 0 (slots_from s gs 0)) ≡ width_of s * (length gs + 1)
+  pub offsets_sized : length (offsets_data s 0 (slots_from s gs 0)) ≡ width_of s * (length gs + 1)
   unfolding offsets_data
-  offsets-sized =
-      let n : suc (length (slots_from s gs 0)) ≡ length gs + 1 = omega (arith, slots-count) in
+  offsets_sized =
+      let n : suc (length (slots_from s gs 0)) ≡ length gs + 1 = omega (arith, slots_count) in
       offsets_size s (offsets_after 0 (slots_from s gs 0)) ∙ ap (λ (k : ℕ). width_of s * k) (length_offsets 0 (slots_from s gs 0) ∙ n)
 
 -- the bytes of the slots, one slot further and at their end
 
 pub slots_next : (s : Bool) (gs : List Glyph) (n : ℕ) → n < length gs → slots_data (slots_from s gs n) ≡ padded s (glyph_at gs n) ++ slots_data (slots_from s gs (n + 1))
 unfolding slots_data
-slots_next s gs n h = ap (λ (bs : List (List ℕ)). joined bs) (slots-step s gs n h)
+slots_next s gs n h = ap (λ (bs : List (List ℕ)). joined bs) (slots_step s gs n h)
 
 pub slots_none : (s : Bool) (gs : List Glyph) (n : ℕ) → n ≡ length gs → slots_data (slots_from s gs n) ≡ []
 unfolding slots_data
@@ -60,7 +60,7 @@ pub offsets_next : (s : Bool) (gs : List Glyph) (n o size : ℕ) → n < length 
     offsets_data s o (slots_from s gs n) ≡ offset_bytes s o ++ offsets_data s (o + size) (slots_from s gs (n + 1))
 unfolding offsets_data
 offsets_next s gs n o size h e =
-    ap (λ (bs : List (List ℕ)). joined (map (offset_bytes s) (offsets_after o bs))) (slots-step s gs n h)
+    ap (λ (bs : List (List ℕ)). joined (map (offset_bytes s) (offsets_after o bs))) (slots_step s gs n h)
     ∙ ap (λ (k : ℕ). offset_bytes s o ++ joined (map (offset_bytes s) (offsets_after (o + k) (slots_from s gs (n + 1))))) (sym e)
 
 pub offsets_last : (s : Bool) (gs : List Glyph) (n o : ℕ) → n ≡ length gs → offsets_data s o (slots_from s gs n) ≡ offset_bytes s o ++ []

@@ -10,7 +10,7 @@ use Rattle.format.proofs.TableFront.{formed, table_formed}
 use Rattle.tables.specs.declared.layout.Layout.{Layout}
 use Rattle.tables.specs.Parts.{peak_count, peaks_data, slots_from, slots_data, offsets_data, head_of, head_data}
 use Rattle.tables.specs.Layouts.{Laid}
-use Rattle.tables.proofs.Slots.{slots-all}
+use Rattle.tables.proofs.Slots.{slots_all}
 
 -- the table in the form s, with these slots and so many glyphs
 assembled : Bool → ℕ → List Glyph → List (List ℕ) → ℕ → List ℕ
@@ -33,7 +33,7 @@ module _ (a : ℕ) (gs : List Glyph) (l : Layout) (h : Laid gs l) where
       ∙ ap (λ (t : Bool). formed t a (shared_peaks (peaks_seen gs)) (glyphs_bytes gs)) (sym (e ∙ h.form))
       ∙ formed_is s a gs
       ∙ ap (λ (n : ℕ). assembled s a gs (map (padded s) (glyphs_bytes gs)) n) (length_glyphs_bytes gs)
-      ∙ ap (λ (bs : List (List ℕ)). assembled s a gs bs (length gs)) (sym (slots-all s gs))
+      ∙ ap (λ (bs : List (List ℕ)). assembled s a gs bs (length gs)) (sym (slots_all s gs))
 
   abbrev form : Bool
   form = l.short
@@ -44,20 +44,20 @@ module _ (a : ℕ) (gs : List Glyph) (l : Layout) (h : Laid gs l) where
   abbrev offsets : List ℕ
   offsets = offsets_data form 0 slots
 
-  head-size : length (head_data form a gs) ≡ 20
+  head_size : length (head_data form a gs) ≡ 20
   unfolding head_data
-  head-size = refl
+  head_size = refl
 
-  slots-size : length (slots_data slots) ≡ l.slots
+  slots_size : length (slots_data slots) ≡ l.slots
   unfolding slots_data
-  slots-size = ap (λ (bs : List (List ℕ)). length (joined bs)) (slots-all form gs) ∙ sym h.size
+  slots_size = ap (λ (bs : List (List ℕ)). length (joined bs)) (slots_all form gs) ∙ sym h.size
 
-  pub table-size : length (table_bytes a gs) ≡ 20 + (length offsets + length (peaks_data gs)) + l.slots
-  table-size =
+  pub table_size : length (table_bytes a gs) ≡ 20 + (length offsets + length (peaks_data gs)) + l.slots
+  table_size =
       let after-peaks = length-append (peaks_data gs) (slots_data slots) in
       let after-offsets = length-append offsets (peaks_data gs ++ slots_data slots) in
       ap length (table_is form refl)
-      ∙ omega (arith, head-size, slots-size, after-peaks, after-offsets, length-append (head_data form a gs) (offsets ++ (peaks_data gs ++ slots_data slots)))
+      ∙ omega (arith, head_size, slots_size, after-peaks, after-offsets, length-append (head_data form a gs) (offsets ++ (peaks_data gs ++ slots_data slots)))
 
-  pub slots-few : l.slots ≤ 67108864
-  slots-few = omega (arith, h.size, h.small, padded_total form (glyphs_bytes gs))
+  pub slots_few : l.slots ≤ 67108864
+  slots_few = omega (arith, h.size, h.small, padded_total form (glyphs_bytes gs))

@@ -53,7 +53,7 @@ fn flags(short: bool) -> usize
 
 // Hands over the first twenty bytes. Each place in the batch has the name of the field that begins there.
 fn feed_head<P: TableParts, S: Sink>(parts: &P, short: bool, sink: &mut S) -> Result<(), SinkError>
-    ensures { Fed step (head_data short (axes parts.now) (glyphs parts.now)) (stands sink.old) (stands sink.new) result }
+    ensures { Fed S.step (head_data short (P.axes parts.now) (P.glyphs parts.now)) (S.stands sink.old) (S.stands sink.new) result }
 {
     let mut batch = [0u8; BATCH_SIZE];
     let minor = put_word(&mut batch, 0, MAJOR_VERSION);
@@ -87,7 +87,7 @@ fn make_room<S: Sink>(
     sink: &mut S,
 ) -> Result<usize, SinkError>
     requires { used ≤ 256 }
-    ensures { MatchResult result (λ k. (k + 4 ≤ 256) × Part step (take used batch.now) (take k batch.now) (stands sink.old) (stands sink.new)) (λ e. Fed step (take used batch.now) (stands sink.old) (stands sink.new) (Err e)) }
+    ensures { MatchResult result (λ k. (k + 4 ≤ 256) × Part S.step (take used batch.now) (take k batch.now) (S.stands sink.old) (S.stands sink.new)) (λ e. Fed S.step (take used batch.now) (S.stands sink.old) (S.stands sink.new) (Err e)) }
 {
     if used + LONG_SIZE <= BATCH_SIZE {
         return Ok(used);
@@ -105,8 +105,8 @@ fn is_padded(short: bool, size: usize) -> bool
 
 // The size of the slot of the glyph n.
 fn slot_size<P: TableParts>(parts: &P, short: bool, n: usize) -> usize
-    requires { n < length (glyphs parts.now) }
-    ensures is { result ≡ length (padded short (glyph_at (glyphs parts.now) n)) }
+    requires { n < length (P.glyphs parts.now) }
+    ensures is { result ≡ length (padded short (glyph_at (P.glyphs parts.now) n)) }
     ensures small { result ≤ 17179869184 }
 {
     let size = parts.glyph_size(n);
@@ -123,7 +123,7 @@ fn feed_offsets<P: TableParts, S: Sink>(
     short: bool,
     sink: &mut S,
 ) -> Result<(), SinkError>
-    ensures { Fed step (offsets_data short 0 (slots_from short (glyphs parts.now) 0)) (stands sink.old) (stands sink.new) result }
+    ensures { Fed S.step (offsets_data short 0 (slots_from short (P.glyphs parts.now) 0)) (S.stands sink.old) (S.stands sink.new) result }
 {
     let mut batch = [0u8; BATCH_SIZE];
     let mut used = 0;
@@ -145,8 +145,8 @@ fn feed_slot<P: TableParts, S: Sink>(
     n: usize,
     sink: &mut S,
 ) -> Result<(), SinkError>
-    requires { n < length (glyphs parts.now) }
-    ensures { Fed step (padded short (glyph_at (glyphs parts.now) n)) (stands sink.old) (stands sink.new) result }
+    requires { n < length (P.glyphs parts.now) }
+    ensures { Fed S.step (padded short (glyph_at (P.glyphs parts.now) n)) (S.stands sink.old) (S.stands sink.new) result }
 {
     let before = sink.allowance();
     parts.feed_glyph(n, sink)?;
@@ -159,7 +159,7 @@ fn feed_slot<P: TableParts, S: Sink>(
 
 // Hands over the slots.
 fn feed_slots<P: TableParts, S: Sink>(parts: &P, short: bool, sink: &mut S) -> Result<(), SinkError>
-    ensures { Fed step (slots_data (slots_from short (glyphs parts.now) 0)) (stands sink.old) (stands sink.new) result }
+    ensures { Fed S.step (slots_data (slots_from short (P.glyphs parts.now) 0)) (S.stands sink.old) (S.stands sink.new) result }
 {
     for n in 0..parts.glyph_count() {
         feed_slot(parts, short, n, sink)?;
@@ -173,7 +173,7 @@ pub fn feed_table<P: TableParts, S: Sink>(
     layout: Layout,
     sink: &mut S,
 ) -> Result<(), SinkError>
-    ensures { Laid (glyphs parts.now) layout → Fed step (table_bytes (axes parts.now) (glyphs parts.now)) (stands sink.old) (stands sink.new) result }
+    ensures { Laid (P.glyphs parts.now) layout → Fed S.step (table_bytes (P.axes parts.now) (P.glyphs parts.now)) (S.stands sink.old) (S.stands sink.new) result }
 {
     let short = layout.is_short();
     feed_head(parts, short, sink)?;

@@ -44,7 +44,7 @@ impl Layout {
 
 // The sums over all glyphs.
 fn add_up<P: TableParts>(parts: &P) -> Sums
-    ensures { Summed (glyphs parts.now) (length (glyphs parts.now)) result }
+    ensures { Summed (P.glyphs parts.now) (length (P.glyphs parts.now)) result }
 {
     let mut sums = Sums { even: 0, exact: 0 };
     for n in 0..parts.glyph_count() {
@@ -57,7 +57,7 @@ fn add_up<P: TableParts>(parts: &P) -> Sums
 
 // The layout of the table of these parts, unless its glyphs are too large.
 pub fn lay_out<P: TableParts>(parts: &P) -> Result<Layout, TooLarge>
-    ensures { MatchResult result (Laid (glyphs parts.now)) (λ _. 67108864 < even_total (glyphs_bytes (glyphs parts.now))) }
+    ensures { MatchResult result (Laid (P.glyphs parts.now)) (λ _. 67108864 < even_total (glyphs_bytes (P.glyphs parts.now))) }
 {
     let sums = add_up(parts);
     if sums.even > MOST_BYTES {
@@ -84,7 +84,7 @@ fn width(short: bool) -> usize
 
 // Where the shared peaks begin: after the head and the offsets.
 pub fn peaks_start<P: TableParts>(parts: &P, short: bool) -> usize
-    ensures is { result ≡ 20 + length (offsets_data short 0 (slots_from short (glyphs parts.now) 0)) }
+    ensures is { result ≡ 20 + length (offsets_data short 0 (slots_from short (P.glyphs parts.now) 0)) }
     ensures small { result ≤ 262164 }
 {
     HEAD_SIZE + width(short) * (parts.glyph_count() + 1)
@@ -92,7 +92,7 @@ pub fn peaks_start<P: TableParts>(parts: &P, short: bool) -> usize
 
 // The size of the shared peaks.
 fn peaks_size<P: TableParts>(parts: &P) -> usize
-    ensures is { result ≡ length (peaks_data (glyphs parts.now)) }
+    ensures is { result ≡ length (peaks_data (P.glyphs parts.now)) }
     ensures small { result ≤ 536731650 }
 {
     2 * (parts.axis_count() as usize * parts.shared_count())
@@ -100,7 +100,7 @@ fn peaks_size<P: TableParts>(parts: &P) -> usize
 
 // Where the slots begin: after the shared peaks.
 pub fn slots_start<P: TableParts>(parts: &P, short: bool) -> usize
-    ensures is { result ≡ 20 + (length (offsets_data short 0 (slots_from short (glyphs parts.now) 0)) + length (peaks_data (glyphs parts.now))) }
+    ensures is { result ≡ 20 + (length (offsets_data short 0 (slots_from short (P.glyphs parts.now) 0)) + length (peaks_data (P.glyphs parts.now))) }
     ensures small { result ≤ 536993814 }
 {
     peaks_start(parts, short) + peaks_size(parts)
@@ -108,8 +108,8 @@ pub fn slots_start<P: TableParts>(parts: &P, short: bool) -> usize
 
 // The length of the table of these parts.
 pub fn table_length<P: TableParts>(parts: &P, layout: Layout) -> usize
-    ensures is { Laid (glyphs parts.now) layout → result ≡ length (table_bytes (axes parts.now) (glyphs parts.now)) }
-    ensures small { Laid (glyphs parts.now) layout → result < 4294967296 }
+    ensures is { Laid (P.glyphs parts.now) layout → result ≡ length (table_bytes (P.axes parts.now) (P.glyphs parts.now)) }
+    ensures small { Laid (P.glyphs parts.now) layout → result < 4294967296 }
 {
     slots_start(parts, layout.short).saturating_add(layout.slots)
 }

@@ -27,7 +27,7 @@ pub trait TableParts {
 
     // Hands over the shared peaks.
     fn feed_shared_peaks<S: Sink>(&self, sink: &mut S) -> Result<(), SinkError>
-        ensures { Fed step (peaks_data (glyphs self.now)) (stands sink.old) (stands sink.new) result };
+        ensures { Fed S.step (peaks_data (glyphs self.now)) (S.stands sink.old) (S.stands sink.new) result };
 
     // The number of bytes of the glyph n.
     fn glyph_size(&self, n: usize) -> usize
@@ -38,5 +38,5 @@ pub trait TableParts {
     // Hands over the bytes of the glyph n.
     fn feed_glyph<S: Sink>(&self, n: usize, sink: &mut S) -> Result<(), SinkError>
         requires { n < length (glyphs self.now) }
-        ensures { Fed step (glyph_at (glyphs self.now) n) (stands sink.old) (stands sink.new) result };
+        ensures { Fed S.step (glyph_at (glyphs self.now) n) (S.stands sink.old) (S.stands sink.new) result };
 }

@@ -38,10 +38,10 @@ module _ (n : ℕ) (i : Option ℕ) (region shared : Bool) (p s e : List ℤ) (b
       ∙ ap (λ l. signed_words (cond b p []) ++ l) (words_append (cond region s []) (cond region e []))
 
   -- what the program hands over, part by part
-  pub header-parts : (k : ℕ) (r q : List ℕ) (p' s' e' : List ℤ) → r ≡ word n → q ≡ word k → k ≡ index_word (index_of i) region shared →
+  pub header_parts : (k : ℕ) (r q : List ℕ) (p' s' e' : List ℤ) → r ≡ word n → q ≡ word k → k ≡ index_word (index_of i) region shared →
       p' ≡ cond b p [] → s' ≡ cond region s [] → e' ≡ cond region e [] →
       four r q ++ (signed_words p' ++ (signed_words s' ++ signed_words e')) ≡ header_of n i region shared p s e
-  header-parts k r q p' s' e' er eq ek ep es ee =
+  header_parts k r q p' s' e' er eq ek ep es ee =
       ap (λ l. four l q ++ (signed_words p' ++ (signed_words s' ++ signed_words e'))) er
       ∙ ap (λ l. four (word n) l ++ (signed_words p' ++ (signed_words s' ++ signed_words e'))) (eq ∙ ap word ek)
       ∙ ap (λ l. head n i region shared ++ (signed_words l ++ (signed_words s' ++ signed_words e'))) ep
@@ -50,18 +50,18 @@ module _ (n : ℕ) (i : Option ℕ) (region shared : Bool) (p s e : List ℤ) (b
       ∙ ap (λ l. head n i region shared ++ l) (sym values_are)
 
   -- the size, from the lengths of the tuples that are stored
-  pub header-size : (x y : ℕ) → x ≡ cond b (length p) 0 → y ≡ cond region (length s + length e) 0 → 4 + 2 * (x + y) ≡ length (header_of n i region shared p s e)
-  header-size x y ex ey =
+  pub header_size : (x y : ℕ) → x ≡ cond b (length p) 0 → y ≡ cond region (length s + length e) 0 → 4 + 2 * (x + y) ≡ length (header_of n i region shared p s e)
+  header_size x y ex ey =
       let l = length_words (peak_part (index_of i) p ++ region_of region s e) in
       let a = length-append (peak_part (index_of i) p) (region_of region s e) in
-      let u = ex ∙ peak-long b ∙ ap length (sym (peak_is i b p own)) in
-      let v = ey ∙ region-long region in
+      let u = ex ∙ peak_long b ∙ ap length (sym (peak_is i b p own)) in
+      let v = ey ∙ region_long region in
       omega arith
     where
-      peak-long : (t : Bool) → cond t (length p) 0 ≡ length (cond t p [])
-      peak-long true = refl
-      peak-long false = refl
+      peak_long : (t : Bool) → cond t (length p) 0 ≡ length (cond t p [])
+      peak_long true = refl
+      peak_long false = refl
 
-      region-long : (t : Bool) → cond t (length s + length e) 0 ≡ length (region_of t s e)
-      region-long true = sym (length-append s e)
-      region-long false = refl
+      region_long : (t : Bool) → cond t (length s + length e) 0 ≡ length (region_of t s e)
+      region_long true = sym (length-append s e)
+      region_long false = refl

@@ -34,16 +34,16 @@ module _ (ps ss es : List ℤ) (i : ℕ) where
       rw (drop_more ps i (pos 0) p, drop_more ss i (pos 0) s, drop_more es i (pos 0) e) refl
 
   -- an axis with implied bounds, and one with others
-  pub region-go : (b : Bool) → i < min (min (length ps) (length ss)) (length es) → b ≡ not (bounds_implied (tent_at ps ss es i)) → b ≡ false →
+  pub region_go : (b : Bool) → i < min (min (length ps) (length ss)) (length es) → b ≡ not (bounds_implied (tent_at ps ss es i)) → b ≡ false →
       all bounds_implied (tents_from (drop i ps) (drop i ss) (drop i es)) ≡ all bounds_implied (tents_from (drop (i + 1) ps) (drop (i + 1) ss) (drop (i + 1) es))
-  region-go b h e f = step h ∙ ap (λ x. x && all bounds_implied (tents_from (drop (i + 1) ps) (drop (i + 1) ss) (drop (i + 1) es))) (kept (bounds_implied (tent_at ps ss es i)) (sym e ∙ f))
+  region_go b h e f = step h ∙ ap (λ x. x && all bounds_implied (tents_from (drop (i + 1) ps) (drop (i + 1) ss) (drop (i + 1) es))) (kept (bounds_implied (tent_at ps ss es i)) (sym e ∙ f))
 
-  pub region-stop : (b : Bool) → i < min (min (length ps) (length ss)) (length es) → b ≡ not (bounds_implied (tent_at ps ss es i)) → b ≡ true →
+  pub region_stop : (b : Bool) → i < min (min (length ps) (length ss)) (length es) → b ≡ not (bounds_implied (tent_at ps ss es i)) → b ≡ true →
       all bounds_implied (tents_from (drop i ps) (drop i ss) (drop i es)) ≡ false
-  region-stop b h e f = step h ∙ ap (λ x. x && all bounds_implied (tents_from (drop (i + 1) ps) (drop (i + 1) ss) (drop (i + 1) es))) (turned (bounds_implied (tent_at ps ss es i)) (sym e ∙ f))
+  region_stop b h e f = step h ∙ ap (λ x. x && all bounds_implied (tents_from (drop (i + 1) ps) (drop (i + 1) ss) (drop (i + 1) es))) (turned (bounds_implied (tent_at ps ss es i)) (sym e ∙ f))
 
-  pub region-end : min (min (length ps) (length ss)) (length es) ≤ i → all bounds_implied (tents_from (drop i ps) (drop i ss) (drop i es)) ≡ true
-  region-end h =
+  pub region_end : min (min (length ps) (length ss)) (length es) ≤ i → all bounds_implied (tents_from (drop i ps) (drop i ss) (drop i es)) ≡ true
+  region_end h =
       let p = length-drop i ps in
       let s = length-drop i ss in
       let e = length-drop i es in

@@ -43,7 +43,7 @@ fn feed_points<S: Sink>(
     shared: bool,
     sink: &mut S,
 ) -> Result<(), SinkError>
-    ensures { Fed step (points_part shared all (deltas_of deltas.now)) (stands sink.old) (stands sink.new) result }
+    ensures { Fed S.step (points_part shared all (deltas_of deltas.now)) (S.stands sink.old) (S.stands sink.new) result }
 {
     if shared {
         return Ok(());

@@ -7,11 +7,11 @@ use Rattle.variations.specs.declared.delta.Coordinate.{Coordinate}
 use Rattle.variations.specs.Deltas.{coordinate_of, is_stored, column}
 
 module _ (a : Coordinate) (all : Bool) (ds : List GlyphDelta) (i : ℕ) (o : GlyphDelta) where
-  pub column-keep : i < length ds → is_stored all (get_or ds i o) ≡ true → column a all (drop i ds) ≡ coordinate_of a (get_or ds i o) ∷ column a all (drop (i + 1) ds)
-  column-keep h e = rw (drop_more ds i o h) (cond-true _ _ _ e)
+  pub column_keep : i < length ds → is_stored all (get_or ds i o) ≡ true → column a all (drop i ds) ≡ coordinate_of a (get_or ds i o) ∷ column a all (drop (i + 1) ds)
+  column_keep h e = rw (drop_more ds i o h) (cond-true _ _ _ e)
 
-  pub column-skip : i < length ds → is_stored all (get_or ds i o) ≡ false → column a all (drop i ds) ≡ column a all (drop (i + 1) ds)
-  column-skip h e = rw (drop_more ds i o h) (cond-false _ _ _ e)
+  pub column_skip : i < length ds → is_stored all (get_or ds i o) ≡ false → column a all (drop i ds) ≡ column a all (drop (i + 1) ds)
+  column_skip h e = rw (drop_more ds i o h) (cond-false _ _ _ e)
 
 pub column_end : (a : Coordinate) (all : Bool) (ds : List GlyphDelta) (i : ℕ) → length ds ≤ i → column a all (drop i ds) ≡ []
 column_end a all ds i h = rw (drop_all i ds h) refl

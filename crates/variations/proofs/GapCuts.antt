@@ -11,11 +11,11 @@ use Rattle.variations.specs.Deltas.{deltas_of}
 use Rattle.variations.specs.Gaps.{gaps_from, GapStepped, in_class, cut_gaps, gap_run_of, GapRunAt}
 
 module _ (ds : List GlyphDelta) (i : ℕ) (o : GlyphDelta) where
-  pub points-keep : i < length ds → (get_or ds i o).required ≡ true → required_from i (deltas_of (drop i ds)) ≡ i ∷ required_from (i + 1) (deltas_of (drop (i + 1) ds))
-  points-keep h e = rw (drop_more ds i o h) (cond-true _ _ _ e ∙ rw add-one refl)
+  pub points_keep : i < length ds → (get_or ds i o).required ≡ true → required_from i (deltas_of (drop i ds)) ≡ i ∷ required_from (i + 1) (deltas_of (drop (i + 1) ds))
+  points_keep h e = rw (drop_more ds i o h) (cond-true _ _ _ e ∙ rw add-one refl)
 
-  pub points-skip : i < length ds → (get_or ds i o).required ≡ false → required_from i (deltas_of (drop i ds)) ≡ required_from (i + 1) (deltas_of (drop (i + 1) ds))
-  points-skip h e = rw (drop_more ds i o h) (cond-false _ _ _ e ∙ rw add-one refl)
+  pub points_skip : i < length ds → (get_or ds i o).required ≡ false → required_from i (deltas_of (drop i ds)) ≡ required_from (i + 1) (deltas_of (drop (i + 1) ds))
+  points_skip h e = rw (drop_more ds i o h) (cond-false _ _ _ e ∙ rw add-one refl)
 
 pub points_end : (ds : List GlyphDelta) (i : ℕ) → length ds ≤ i → required_from i (deltas_of (drop i ds)) ≡ []
 points_end ds i h = rw (drop_all i ds h) refl
@@ -24,7 +24,7 @@ pub gap_found : (ds : List GlyphDelta) (p i : ℕ) (o : GlyphDelta) → required
     i < length ds → (get_or ds i o).required ≡ true → gaps_from ds p ≡ (i - (p - 1)) ∷ gaps_from ds (i + 1)
 gap_found ds p i o e h t =
     let f : i ≡ i + 1 - 1 = omega arith in
-    ap (gaps_after (p - 1)) (e ∙ points-keep ds i o h t)
+    ap (gaps_after (p - 1)) (e ∙ points_keep ds i o h t)
     ∙ ap (λ b. (i - (p - 1)) ∷ gaps_after b (required_from (i + 1) (deltas_of (drop (i + 1) ds)))) f
 
 -- classes
@@ -122,8 +122,8 @@ pub count_more : (ds : List GlyphDelta) (i : ℕ) (o : GlyphDelta) (n m t : ℕ)
 count_more ds i o n m t h e s = by (get_or ds i o).required refl
   where
     by : (b : Bool) → (get_or ds i o).required ≡ b → n + m + length (required_from (i + 1) (deltas_of (drop (i + 1) ds))) ≡ t
-    by true q = let k = ap length (points-keep ds i o h q) in let j = e ∙ cond-true _ 1 0 q in omega arith
-    by false q = let k = ap length (points-skip ds i o h q) in let j = e ∙ cond-false _ 1 0 q in omega arith
+    by true q = let k = ap length (points_keep ds i o h q) in let j = e ∙ cond-true _ 1 0 q in omega arith
+    by false q = let k = ap length (points_skip ds i o h q) in let j = e ∙ cond-false _ 1 0 q in omega arith
 
 pub one_most : (ds : List GlyphDelta) (i : ℕ) (o : GlyphDelta) (m : ℕ) → m ≡ cond (get_or ds i o).required 1 0 → m ≤ 1
 one_most ds i o m e = rw e (cond_both (get_or ds i o).required 1 0 (λ n. n ≤ 1) (λ _. omega arith) (λ _. omega arith))

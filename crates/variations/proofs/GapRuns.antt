@@ -41,26 +41,26 @@ gap_width_most true = omega arith
 gap_width_most false = omega arith
 
 module _ (ds : List GlyphDelta) (p : ℕ) (r : PointRun) (h : GapRunAt ds p r) where
-  pub gap-runs-step : gap_runs_bytes (gaps_from ds p) ≡ gap_run_bytes (gap_run_of r.wide (take r.count (gaps_from ds p))) ++ gap_runs_bytes (gaps_from ds r.after)
-  gap-runs-step = ap (λ rs. joined (map gap_run_bytes rs)) h.first
+  pub gap_runs_step : gap_runs_bytes (gaps_from ds p) ≡ gap_run_bytes (gap_run_of r.wide (take r.count (gaps_from ds p))) ++ gap_runs_bytes (gaps_from ds r.after)
+  gap_runs_step = ap (λ rs. joined (map gap_run_bytes rs)) h.first
 
   -- a batch that begins with the run, as a writer hands it over
-  pub gap-run-taken : (n : ℕ) (batch : List ℕ) → take n batch ≡ gap_run_bytes (gap_run_of r.wide (take r.count (gaps_from ds r.start))) →
+  pub gap_run_taken : (n : ℕ) (batch : List ℕ) → take n batch ≡ gap_run_bytes (gap_run_of r.wide (take r.count (gaps_from ds r.start))) →
       take (n - 0) batch ≡ gap_run_bytes (gap_run_of r.wide (take r.count (gaps_from ds p)))
-  gap-run-taken n batch e =
+  gap_run_taken n batch e =
       ap (λ m. take m batch) (omega arith) ∙ e ∙ ap (λ s. gap_run_bytes (gap_run_of r.wide (take r.count (gaps_from ds s)))) h.starts
 
-  length-gap-run : length (gap_run_bytes (gap_run_of r.wide (take r.count (gaps_from ds p)))) ≡ 1 + r.count * gap_width r.wide
-  length-gap-run =
+  length_gap_run : length (gap_run_bytes (gap_run_of r.wide (take r.count (gaps_from ds p)))) ≡ 1 + r.count * gap_width r.wide
+  length_gap_run =
       let gs = gaps_from ds p in
       let m : min r.count (length gs) ≡ r.count = omega (arith, h.enough) in
       ap suc (length_gap_values r.wide (take r.count gs) ∙ ap (λ n. n * gap_width r.wide) (length-take r.count gs ∙ m)) ∙ omega arith
 
-  pub gap-size-step : length (gap_runs_bytes (gaps_from ds p)) ≡ 1 + r.count * gap_width r.wide + length (gap_runs_bytes (gaps_from ds r.after))
-  gap-size-step =
-      ap length gap-runs-step
+  pub gap_size_step : length (gap_runs_bytes (gaps_from ds p)) ≡ 1 + r.count * gap_width r.wide + length (gap_runs_bytes (gaps_from ds r.after))
+  gap_size_step =
+      ap length gap_runs_step
       ∙ length-append (gap_run_bytes (gap_run_of r.wide (take r.count (gaps_from ds p)))) (gap_runs_bytes (gaps_from ds r.after))
-      ∙ ap (λ n. n + length (gap_runs_bytes (gaps_from ds r.after))) length-gap-run
+      ∙ ap (λ n. n + length (gap_runs_bytes (gaps_from ds r.after))) length_gap_run
 
 pub record GapSized (ds : List GlyphDelta) (p p' size n : ℕ) (total : ℕ) : Type 0 where
   pub within : p' ≤ length ds
@@ -71,7 +71,7 @@ pub record GapSized (ds : List GlyphDelta) (p p' size n : ℕ) (total : ℕ) : T
 pub gap_sized : (ds : List GlyphDelta) (p size total : ℕ) (r : PointRun) (w : ℕ) → GapRunAt ds p r → w ≡ gap_width r.wide → size ≤ 3 * p → size + length (gap_runs_bytes (gaps_from ds p)) ≡ total →
     GapSized ds p r.after size (1 + r.count * w) total
 gap_sized ds p size total r w h e b s =
-    let z = gap-size-step ds p r h in
+    let z = gap_size_step ds p r h in
     let x = gap_bytes_most r.wide r.count in
     let y = ap (λ n. r.count * n) e in
     record { within = h.within; further = omega (arith, h.paced, h.some_gaps); bound = omega (arith, h.paced, h.some_gaps); sum = omega arith }

@@ -28,9 +28,9 @@ module _ (c : PackedDeltas) (p : ℕ) (r : DeltaRun) (h : RunAt c p r) where
   packed_step = ap (λ rs. joined (map run_bytes rs)) h.first
 
   -- a batch that begins with the run, as a writer hands it over
-  pub run-taken : (n : ℕ) (batch : List ℕ) → take n batch ≡ run_bytes (run_of r.kind (take r.count (values_from c r.start))) →
+  pub run_taken : (n : ℕ) (batch : List ℕ) → take n batch ≡ run_bytes (run_of r.kind (take r.count (values_from c r.start))) →
       take (n - 0) batch ≡ run_bytes (run_of r.kind (take r.count (values_from c p)))
-  run-taken n batch e =
+  run_taken n batch e =
       ap (λ m. take m batch) (omega arith) ∙ e ∙ ap (λ s. run_bytes (run_of r.kind (take r.count (values_from c s)))) h.starts
 
   pub length_run : length (run_bytes (run_of r.kind (take r.count (values_from c p)))) ≡ 1 + r.count * width r.kind

@@ -134,7 +134,7 @@ fn put_count(count: usize, batch: &mut [u8; 2]) -> usize
 
 // Hands over the runs of the required points.
 fn feed_gap_runs<S: Sink>(deltas: &[GlyphDelta], sink: &mut S) -> Result<(), SinkError>
-    ensures { Fed step (gap_runs_bytes (gaps_from deltas.now 0)) (stands sink.old) (stands sink.new) result }
+    ensures { Fed S.step (gap_runs_bytes (gaps_from deltas.now 0)) (S.stands sink.old) (S.stands sink.new) result }
 {
     let mut batch = [0u8; 257];
     let mut runs = PointRuns::new(deltas);
@@ -147,7 +147,7 @@ fn feed_gap_runs<S: Sink>(deltas: &[GlyphDelta], sink: &mut S) -> Result<(), Sin
 
 // Hands over the required points, packed.
 fn feed_required<S: Sink>(deltas: &[GlyphDelta], sink: &mut S) -> Result<(), SinkError>
-    ensures { Fed step (required_bytes deltas.now) (stands sink.old) (stands sink.new) result }
+    ensures { Fed S.step (required_bytes deltas.now) (S.stands sink.old) (S.stands sink.new) result }
 {
     let mut count = [0u8; 2];
     let n = put_count(required_count(deltas), &mut count);

@@ -41,14 +41,14 @@ pub part_none : {step : Step} {whole : List ℕ} {a : Standing} → Part step wh
 part_none = record { done = []; split = refl; handed = handed_none }
 
 module _ {step : Step} {whole rest : List ℕ} {a b : Standing} (xs rest' : List ℕ) (e : rest ≡ xs ++ rest') (p : Part step whole rest a b) where
-  split-again : p.done ++ (xs ++ rest') ≡ whole
-  split-again = ap (λ l. p.done ++ l) (sym e) ∙ p.split
+  split_again : p.done ++ (xs ++ rest') ≡ whole
+  split_again = ap (λ l. p.done ++ l) (sym e) ∙ p.split
 
-  pub part-more : {c : Standing} → Handed step xs b c (Ok tt) → Part step whole rest' a c
-  part-more h = record { done = p.done ++ xs; split = append_assoc p.done xs rest' ∙ split-again; handed = handed_both p.handed h }
+  pub part_more : {c : Standing} → Handed step xs b c (Ok tt) → Part step whole rest' a c
+  part_more h = record { done = p.done ++ xs; split = append_assoc p.done xs rest' ∙ split_again; handed = handed_both p.handed h }
 
-  pub part-stop : {c : Standing} (f : SinkError) → Fed step xs b c (Err f) → Fed step whole a c (Err f)
-  part-stop {c} f h = subst (λ bs. Fed step bs a c (Err f)) split-again (fed_then (Err f) p.handed (fed_stop rest' f h))
+  pub part_stop : {c : Standing} (f : SinkError) → Fed step xs b c (Err f) → Fed step whole a c (Err f)
+  part_stop {c} f h = subst (λ bs. Fed step bs a c (Err f)) split_again (fed_then (Err f) p.handed (fed_stop rest' f h))
 
 pub part_done : {step : Step} {whole rest : List ℕ} {a b : Standing} → rest ≡ [] → Part step whole rest a b → Fed step whole a b (Ok tt)
 part_done {step} {whole} {rest} {a} {b} e p =

@@ -15,11 +15,11 @@ pub trait FontWrite {
     // Hands the bytes over batch by batch, with no look at the allowance before: for a writer that has asked for a
     // larger whole already.
     fn feed<S: Sink>(&self, sink: &mut S) -> Result<(), SinkError>
-        ensures { Fed step (bytes self.now) (stands sink.old) (stands sink.new) result };
+        ensures { Fed S.step (bytes self.now) (S.stands sink.old) (S.stands sink.new) result };
 
     // Hands over all the bytes, or none where the sink has not the allowance for them.
     fn write_into<S: Sink>(&self, sink: &mut S) -> Result<(), SinkError>
-        ensures { Handed step (bytes self.now) (stands sink.old) (stands sink.new) result }
+        ensures { Handed S.step (bytes self.now) (S.stands sink.old) (S.stands sink.new) result }
     {
         ready(sink, self.size())?;
         self.feed(sink)

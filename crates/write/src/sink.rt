@@ -27,7 +27,7 @@ pub trait Sink {
 
 // Whether a sink would take n bytes: every writer of a whole piece asks this before its first byte.
 pub fn ready<S: Sink>(sink: &S, n: usize) -> Result<(), SinkError>
-    ensures { Ready step n (stands sink.now) result }
+    ensures { Ready S.step n (S.stands sink.now) result }
 {
     if n > sink.allowance() {
         return Err(SinkError::Full);

@@ -9,7 +9,7 @@ use Rattle.counts.specs.Rows.{rows}
 use Rattle.counts.specs.Tables.{Filled}
 use Rattle.sets.specs.OfSet.{account_of, glyphs_of}
 use Rattle.counting.specs.Counted.{RanksHeld, OrdersHeld}
-use Rattle.counting.proofs.Ranks.{seen_long, enough, ranks-held, orders-held, shared_is}
+use Rattle.counting.proofs.Ranks.{seen_long, enough, ranks_held, orders_held, shared_is}
 use Rattle.counting.proofs.counting.count_peaks.Goals as goal
 
 pub returns : goal.returns
@@ -39,6 +39,6 @@ returns c =
     let standing : Standing (same_peak rs) (λ i. count p.count (same_peak rs) i) p.count end = c.rank.ensures.ranked filled in
     record {
       shared = shared_is rs ps n c.repeated-repeated.result c.min.result e number (c.repeated-repeated.ensures.value (same_peak rs) (subst (λ (x : ℕ). Filled (same_peak rs) x filling) k filled)) c.min.ensures;
-      ranks = subst (λ (x : List CountCell). RanksHeld ps x) (search rules) (ranks-held rs ps p.count e (k ∙ number) end standing);
-      orders = subst (λ (x : List CountCell). OrdersHeld ps x) (search rules) (orders-held rs ps p.count e (k ∙ number) end standing);
+      ranks = subst (λ (x : List CountCell). RanksHeld ps x) (search rules) (ranks_held rs ps p.count e (k ∙ number) end standing);
+      orders = subst (λ (x : List CountCell). OrdersHeld ps x) (search rules) (orders_held rs ps p.count e (k ∙ number) end standing);
     }

@@ -9,7 +9,7 @@ use Rattle.counting.specs.Marked.{KeepsRanks}
 use Rattle.counting.specs.PointSets.{spanned}
 use Rattle.counting.proofs.Marks.{keeps_more, keeps_filled, keeps_marked}
 use Rattle.counting.proofs.SharedSets.{marks_are}
-use Rattle.counting.proofs.Views.{spanned-long}
+use Rattle.counting.proofs.Views.{spanned_long}
 use Rattle.counting.proofs.counting.mark_part.Goals as goal
 
 pub returns : goal.returns
@@ -23,7 +23,7 @@ returns c =
     let long : p.count ≤ length start = subst (λ (x : List CountCell). p.count ≤ length x) (sym same) c.requires in
     let filled : Filled (same_set (point_sets vs)) p.count filling = c.fill.ensures.filled (c.fill.ensures.refuses ∙ le-leb p.count (length start) long) in
     let m : (i : ℕ) → i < p.count → marked_at end i ≡ get_or (marks vs) i false =
-    λ i l. c.mark-best.ensures.marks filled i l ∙ marks_are vs p.count i (sym (spanned-long p.set.now p.first p.count i l p.within)) l in
+    λ i l. c.mark-best.ensures.marks filled i l ∙ marks_are vs p.count i (sym (spanned_long p.set.now p.first p.count i l p.within)) l in
     let r : KeepsRanks c.args.cells.now end =
     subst (λ (x : List CountCell). KeepsRanks x end) same
     (keeps_more start filling end (keeps_filled p.count start filling c.fill.ensures.rest) (keeps_marked p.count filling end c.mark-best.ensures.rest)) in

@@ -3,7 +3,7 @@ use Rattle.counts.specs.declared.cells.CountCell.{CountCell}
 use Rattle.sets.specs.declared.set.Set.{Set}
 use Rattle.counting.specs.Counted.{marks}
 use Rattle.counting.specs.PointSets.{spanned}
-use Rattle.counting.proofs.Parts.{put-here, put-before, put_keeps}
+use Rattle.counting.proofs.Parts.{put_here, put_before, put_keeps}
 use Rattle.counting.proofs.counting.mark_span.Goals as goal
 
 pub returns : goal.returns
@@ -23,10 +23,10 @@ returns c =
     record {
       marks = λ i l.
           let h : i < k = omega arith in
-          ap (λ (x : CountCell). x.marked) (put-here xs ys a k within long i h) ∙ c.mark-part.ensures.marks i (subst (λ (x : ℕ). i < x) (sym s.1) l)
+          ap (λ (x : CountCell). x.marked) (put_here xs ys a k within long i h) ∙ c.mark-part.ensures.marks i (subst (λ (x : ℕ). i < x) (sym s.1) l)
           ∙ ap (λ (x : Set). get_or (marks (spanned x r.first r.count)) i false) t
           ∙ ap (λ (x : ℕ). get_or (marks (spanned c.args.set.now x r.count)) i false) s.0
           ∙ ap (λ (x : ℕ). get_or (marks (spanned c.args.set.now a x)) i false) s.1;
-      before = λ i l. ap (λ (x : CountCell). x.marked) (put-before xs ys a k within long i l);
+      before = λ i l. ap (λ (x : CountCell). x.marked) (put_before xs ys a k within long i l);
       rest = put_keeps xs ys a k within long c.mark-part.ensures.rest;
     }

@@ -5,7 +5,7 @@ use Rattle.format.specs.Answers.{by_set, missing_numbers, few_count_cells}
 use Rattle.counts.specs.Cells.{blank}
 use Rattle.sets.specs.OfSet.{stores, account_of, glyphs_of, sound_of}
 use Rattle.sets.proofs.Shortness.{short_set}
-use Rattle.gvar.proofs.Answering.{compiled-refused, compiled-written, peaks_counted, cells-at-gap, cells-too-few, cells-cleared, sink_left}
+use Rattle.gvar.proofs.Answering.{compiled_refused, compiled_written, peaks_counted, cells_at_gap, cells_too_few, cells_cleared, sink_left}
 use Rattle.gvar.proofs.compile.compile.Goals as goal
 
 pub returns-then-not-numbers-full : goal.returns-then-not-numbers-full
@@ -15,9 +15,9 @@ returns-then-not-numbers-full g c =
     let a = g.S.Sink.stands c.args.sink.now in
     let gap : numbers_full (glyphs_of s) ≡ false = sym c.numbers_full.ensures ∙ c.if-not-numbers-full.true in
     record {
-      compiled = compiled-refused (account_of s) (length cs) g.S.Sink.step a s.axes.few (short_set (stores s) (sound_of s)) a (by_set 10 none none) refl (missing_numbers gap);
+      compiled = compiled_refused (account_of s) (length cs) g.S.Sink.step a s.axes.few (short_set (stores s) (sound_of s)) a (by_set 10 none none) refl (missing_numbers gap);
       sink = refl;
-      cells = sym (cells-at-gap (glyphs_of s) cs gap);
+      cells = sym (cells_at_gap (glyphs_of s) cs gap);
     }
 
 pub returns-in-default : goal.returns-in-default
@@ -28,9 +28,9 @@ returns-in-default g c =
     let full : numbers_full (glyphs_of s) ≡ true = sym c.numbers_full.ensures ∙ c.if-not-numbers-full.false in
     let n = c.in-default.ensures.counted in
     record {
-      compiled = compiled-refused (account_of s) (length cs) g.S.Sink.step a s.axes.few (short_set (stores s) (sound_of s)) a (by_set 11 none none) refl (few_count_cells full n.0);
+      compiled = compiled_refused (account_of s) (length cs) g.S.Sink.step a s.axes.few (short_set (stores s) (sound_of s)) a (by_set 11 none none) refl (few_count_cells full n.0);
       sink = refl;
-      cells = n.1 ∙ sym (cells-too-few (glyphs_of s) cs full n.0);
+      cells = n.1 ∙ sym (cells_too_few (glyphs_of s) cs full n.0);
     }
 
 pub returns : goal.returns
@@ -43,7 +43,7 @@ returns g c =
     let enough : variation_count (glyphs_of s) ≤ length cs = omega (arith, n.counted.1.long, n.long, peaks_counted (glyphs_of s)) in
     let w = c.write-set-answer.ensures in
     record {
-      compiled = compiled-written (account_of s) (length cs) g.S.Sink.step a s.axes.few (short_set (stores s) (sound_of s)) _ c.write-set-answer.result (full, enough) w;
+      compiled = compiled_written (account_of s) (length cs) g.S.Sink.step a s.axes.few (short_set (stores s) (sound_of s)) _ c.write-set-answer.result (full, enough) w;
       sink = sink_left g.S.Sink.step _ (glyphs_of s) a _ c.write-set-answer.result w;
-      cells = c.clear.ensures ∙ ap (λ m. replicate m blank) n.long ∙ sym (cells-cleared (glyphs_of s) cs full enough);
+      cells = c.clear.ensures ∙ ap (λ m. replicate m blank) n.long ∙ sym (cells_cleared (glyphs_of s) cs full enough);
     }

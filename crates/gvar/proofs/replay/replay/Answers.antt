@@ -1,7 +1,7 @@
 use Rattle.std.proofs.Common.{length, subst}
 use Rattle.format.specs.Account.{Account}
 use Rattle.sets.specs.OfSet.{account_of}
-use Rattle.gvar.specs.Runs.{Run-noted}
+use Rattle.gvar.specs.Runs.{RunNoted}
 use Rattle.gvar.proofs.Replays.{replayed}
 use Rattle.gvar.proofs.replay.replay.Goals as goal
 
@@ -11,6 +11,6 @@ returns g c =
     replayed s.step (length c.args.cells.now) c.args.axes.count _ c.args.requests.now c.make-all.new.replies
     (s.stands c.args.sink.now) (account_of c.make-all.new.set) (s.stands c.make-all.new.sink)
     (subst
-    (λ (k : Account). Run-noted s.step (length c.args.cells.now) c.args.requests.now c.make-all.new.replies k (s.stands c.args.sink.now) (account_of c.make-all.new.set) (s.stands c.make-all.new.sink))
+    (λ (k : Account). RunNoted s.step (length c.args.cells.now) c.args.requests.now c.make-all.new.replies k (s.stands c.args.sink.now) (account_of c.make-all.new.set) (s.stands c.make-all.new.sink))
     c.open-set.ensures.account
     c.make-all.ensures)

@@ -1,5 +1,5 @@
 use Rattle.std.proofs.lemmas.Result.{err_from_is_err_and}
-use Rattle.reader.proofs.OpenSteps.{table-wrong, Answered, opens, refuses, answered}
+use Rattle.reader.proofs.OpenSteps.{table_wrong, Answered, opens, refuses, answered}
 use Rattle.reader.proofs.slot.open_glyph.Goals as goal
 
 pub returns-in-err-table : goal.returns-in-err-table
@@ -8,7 +8,7 @@ returns-in-err-table c =
     let bs = c.args.bytes.now in
     let g = c.args.glyph in
     let p = c.args.p in
-    let a : Answered bs g p c.from-residual.result = rw (q.1, q.2) (table-wrong bs g p _ c.in-err-table.ensures) in
+    let a : Answered bs g p c.from-residual.result = rw (q.1, q.2) (table_wrong bs g p _ c.in-err-table.ensures) in
     record { found = opens bs g p c.from-residual.result a; refused = refuses bs g p c.from-residual.result a }
 
 pub returns : goal.returns

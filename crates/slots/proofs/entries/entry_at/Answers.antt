@@ -1,7 +1,7 @@
 use Rattle.std.proofs.Common.{◌≡◌, sym, refl, ap, ◌∙◌, arith}
 use Rattle.format.specs.Reader.{at_entry}
 use Rattle.slots.specs.Faults.{entry_declined}
-use Rattle.slots.proofs.WalkSteps.{no_header, no-data, there, wrong_entry}
+use Rattle.slots.proofs.WalkSteps.{no_header, no_data, there, wrong_entry}
 use Rattle.slots.proofs.entries.entry_at.Goals as goal
 
 pub returns-in-default : goal.returns-in-default
@@ -10,7 +10,7 @@ returns-in-default c k g t n hs left past num l e =
 
 pub returns-then-have-size : goal.returns-then-have-size
 returns-then-have-size c k g t n hs left past num l e =
-    no-data k g c.args.p t c.args.i c.args.table.now c.args.header c.args.body c.args.axes n hs left past l e c.in-Some.head c.in-Some.ensures (omega arith)
+    no_data k g c.args.p t c.args.i c.args.table.now c.args.header c.args.body c.args.axes n hs left past l e c.in-Some.head c.in-Some.ensures (omega arith)
 
 pub returns-in-Ok : goal.returns-in-Ok
 returns-in-Ok c =

@@ -1,22 +1,22 @@
 use Rattle.std.proofs.Common.{◌≡◌, sym, ◌∙◌}
-use Rattle.slots.proofs.HeadSteps.{peaks-none, peaks-more, peaks-here, peaks-never, peaks-all}
+use Rattle.slots.proofs.HeadSteps.{peaks_none, peaks_more, peaks_here, peaks_never, peaks_all}
 use Rattle.slots.proofs.headers.check_peaks.Goals as goal
 
 pub loop-i-init : goal.loop-i-init
-loop-i-init c = peaks-none c.args.table.now c.args.at c.args.axes c.args.count c.args.peaks
+loop-i-init c = peaks_none c.args.table.now c.args.at c.args.axes c.args.count c.args.peaks
 
 pub loop-i-preserved : goal.loop-i-preserved
 loop-i-preserved c =
-    peaks-more c.args.table.now c.args.at c.args.axes c.args.count c.args.peaks c.loop-i.i c.loop-i.place c.in-Some.h c.loop-i-test.true c.loop-i.invariant c.in-Some.ensures
+    peaks_more c.args.table.now c.args.at c.args.axes c.args.count c.args.peaks c.loop-i.i c.loop-i.place c.in-Some.h c.loop-i-test.true c.loop-i.invariant c.in-Some.ensures
     (sym c.lacks-peak.ensures ∙ c.if-lacks-peak.false)
 
 pub returns-in-default : goal.returns-in-default
-returns-in-default c = peaks-never c.args.table.now c.args.at c.args.axes c.args.count c.args.peaks c.loop-i.i c.loop-i.place c.loop-i-test.true c.loop-i.invariant c.in-default.ensures
+returns-in-default c = peaks_never c.args.table.now c.args.at c.args.axes c.args.count c.args.peaks c.loop-i.i c.loop-i.place c.loop-i-test.true c.loop-i.invariant c.in-default.ensures
 
 pub returns-then-lacks-peak : goal.returns-then-lacks-peak
 returns-then-lacks-peak c =
-    peaks-here c.args.table.now c.args.at c.args.axes c.args.count c.args.peaks c.loop-i.i c.loop-i.place c.in-Some.h c.loop-i-test.true c.loop-i.invariant c.in-Some.ensures
+    peaks_here c.args.table.now c.args.at c.args.axes c.args.count c.args.peaks c.loop-i.i c.loop-i.place c.in-Some.h c.loop-i-test.true c.loop-i.invariant c.in-Some.ensures
     (sym c.lacks-peak.ensures ∙ c.if-lacks-peak.true)
 
 pub returns : goal.returns
-returns c = peaks-all c.args.table.now c.args.at c.args.axes c.args.count c.args.peaks c.loop-i.i c.loop-i.place c.loop-i-test.false c.loop-i.invariant
+returns c = peaks_all c.args.table.now c.args.at c.args.axes c.args.count c.args.peaks c.loop-i.i c.loop-i.place c.loop-i-test.false c.loop-i.invariant

@@ -1,14 +1,14 @@
-use Rattle.slots.proofs.HeadSteps.{so-far-none, so_far_more, so-far-fault, so-far-all}
+use Rattle.slots.proofs.HeadSteps.{so_far_none, so_far_more, so_far_fault, so_far_all}
 use Rattle.slots.proofs.headers.past_headers.Goals as goal
 
 pub loop-i-init : goal.loop-i-init
-loop-i-init c = so-far-none c.args.table.now c.args.at c.args.axes c.args.count
+loop-i-init c = so_far_none c.args.table.now c.args.at c.args.axes c.args.count
 
 pub loop-i-preserved : goal.loop-i-preserved
 loop-i-preserved c = so_far_more c.args.table.now c.args.at c.args.axes c.args.count c.loop-i.i c.loop-i.place c.in-Some.h c.loop-i-test.true c.loop-i.invariant c.in-Some.ensures
 
 pub returns-in-default : goal.returns-in-default
-returns-in-default c = so-far-fault c.args.table.now c.args.at c.args.axes c.args.count c.loop-i.i c.loop-i.place c.loop-i-test.true c.loop-i.invariant c.in-default.ensures
+returns-in-default c = so_far_fault c.args.table.now c.args.at c.args.axes c.args.count c.loop-i.i c.loop-i.place c.loop-i-test.true c.loop-i.invariant c.in-default.ensures
 
 pub returns : goal.returns
-returns c = so-far-all c.args.table.now c.args.at c.args.axes c.args.count c.loop-i.i c.loop-i.place c.loop-i-test.false c.loop-i.invariant
+returns c = so_far_all c.args.table.now c.args.at c.args.axes c.args.count c.loop-i.i c.loop-i.place c.loop-i-test.false c.loop-i.invariant

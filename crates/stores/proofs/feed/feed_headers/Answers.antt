@@ -1,6 +1,6 @@
 use Rattle.std.proofs.Common.{◌+◌, arith}
 use Rattle.std.proofs.lemmas.Result.{err_from_is_err_and}
-use Rattle.write.proofs.Feeding.{part-more, part-stop, part_done}
+use Rattle.write.proofs.Feeding.{part_more, part_stop, part_done}
 use Rattle.stores.specs.Parts.{variation_at, header_in}
 use Rattle.stores.proofs.Joining.{left_at, left_more, left_none}
 use Rattle.stores.proofs.feed.feed_headers.Goals as goal
@@ -12,7 +12,7 @@ returns-in-err-feed-header g c =
     let ps = t.peaks c.args.store.now in
     let vs = t.variations c.args.store.now in
     let j = c.loop-j.j in
-    rw (q.1, q.2) (part-stop (header_in ps vs (variation_at vs j)) (left_at (header_in ps vs) vs (j + 1)) (left_more (header_in ps vs) vs j (omega arith)) c.loop-j.invariant _ c.in-err-feed-header.ensures)
+    rw (q.1, q.2) (part_stop (header_in ps vs (variation_at vs j)) (left_at (header_in ps vs) vs (j + 1)) (left_more (header_in ps vs) vs j (omega arith)) c.loop-j.invariant _ c.in-err-feed-header.ensures)
 
 pub loop-j-preserved : goal.loop-j-preserved
 loop-j-preserved g c =
@@ -20,7 +20,7 @@ loop-j-preserved g c =
     let ps = t.peaks c.args.store.now in
     let vs = t.variations c.args.store.now in
     let j = c.loop-j.j in
-    part-more (header_in ps vs (variation_at vs j)) (left_at (header_in ps vs) vs (j + 1)) (left_more (header_in ps vs) vs j (omega arith)) c.loop-j.invariant c.in-ok-feed-header.ensures.outcome
+    part_more (header_in ps vs (variation_at vs j)) (left_at (header_in ps vs) vs (j + 1)) (left_more (header_in ps vs) vs j (omega arith)) c.loop-j.invariant c.in-ok-feed-header.ensures.outcome
 
 pub returns : goal.returns
 returns g c =

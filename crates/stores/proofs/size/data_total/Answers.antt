@@ -1,6 +1,6 @@
 use Rattle.std.proofs.Common.{arith}
 use Rattle.stores.specs.Parts.{data_in}
-use Rattle.stores.proofs.Joining.{sum_more, sum-all}
+use Rattle.stores.proofs.Joining.{sum_more, sum_all}
 use Rattle.stores.proofs.size.data_total.Goals as goal
 
 pub loop-j-preserved : goal.loop-j-preserved
@@ -11,4 +11,4 @@ loop-j-preserved g c =
 pub returns : goal.returns
 returns g c =
     let vs = g.T.TupleVariations.variations c.args.store.now in
-    record { size = sum-all (data_in vs) vs c.loop-j.j c.loop-j.size _ (omega arith) c.loop-j.invariant.0; most = omega arith }
+    record { size = sum_all (data_in vs) vs c.loop-j.j c.loop-j.size _ (omega arith) c.loop-j.invariant.0; most = omega arith }

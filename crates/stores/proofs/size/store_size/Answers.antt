@@ -1,20 +1,20 @@
 use Rattle.std.proofs.Common.{length, sym, ap, arith}
 use Rattle.stores.proofs.Parts.{store_long, no_bytes}
-use Rattle.stores.proofs.Tests.{data-refused, headers-refused, all-within}
+use Rattle.stores.proofs.Tests.{data_refused, headers_refused, all_within}
 use Rattle.stores.proofs.size.store_size.Goals as goal
 
 pub returns-in-Err : goal.returns-in-Err
 returns-in-Err g c =
     let t = g.T.TupleVariations in
     let store = c.args.store.now in
-    record { told = λ k. data-refused (t.peaks store) k (t.variations store) _ (c.in-Err.ensures.told k) }
+    record { told = λ k. data_refused (t.peaks store) k (t.variations store) _ (c.in-Err.ensures.told k) }
 
 pub returns-then-offset-gt-MAX-DATA-OFFSET : goal.returns-then-offset-gt-MAX-DATA-OFFSET
 returns-then-offset-gt-MAX-DATA-OFFSET g c =
     let t = g.T.TupleVariations in
     let store = c.args.store.now in
     let data_fits = c.in-Ok.ensures.told.0 in
-    record { told = λ k. headers-refused (t.peaks store) k (t.variations store) (data_fits k) c.headers-size-offset.result c.headers-size-offset.ensures.size c.if-offset-gt-MAX-DATA-OFFSET.true }
+    record { told = λ k. headers_refused (t.peaks store) k (t.variations store) (data_fits k) c.headers-size-offset.result c.headers-size-offset.ensures.size c.if-offset-gt-MAX-DATA-OFFSET.true }
 
 pub returns-then-count-eq0 : goal.returns-then-count-eq0
 returns-then-count-eq0 g c =
@@ -24,7 +24,7 @@ returns-then-count-eq0 g c =
     let headers = c.headers-size-offset in
     record {
       told = (
-        λ k. all-within (t.peaks store) k (t.variations store) (data_fits k) headers.result headers.ensures.size c.if-offset-gt-MAX-DATA-OFFSET.false,
+        λ k. all_within (t.peaks store) k (t.variations store) (data_fits k) headers.result headers.ensures.size c.if-offset-gt-MAX-DATA-OFFSET.false,
         sym (ap length (no_bytes (t.peaks store) (t.variations store) (omega arith))),
         omega arith,
       );
@@ -39,7 +39,7 @@ returns g c =
     let shared = c.shared-size-shared in
     record {
       told = (
-        λ k. all-within (t.peaks store) k (t.variations store) (sized.0 k) headers.result headers.ensures.size c.if-offset-gt-MAX-DATA-OFFSET.false,
+        λ k. all_within (t.peaks store) k (t.variations store) (sized.0 k) headers.result headers.ensures.size c.if-offset-gt-MAX-DATA-OFFSET.false,
         store_long (t.peaks store) (t.variations store) headers.result shared.result c.in-Ok.size (omega arith) headers.ensures.size shared.ensures.size sized.1,
         omega (arith, sized.2),
       );

@@ -3,7 +3,7 @@ use Rattle.std.proofs.lemmas.Result.{err_from_is_err_and}
 use Rattle.format.specs.Table.{offset_bytes}
 use Rattle.write.proofs.Feeding.{fed_whole}
 use Rattle.tables.specs.Parts.{slots_from, offsets_data}
-use Rattle.tables.proofs.Batches.{held-emptied, held-stop, held_more, held_last}
+use Rattle.tables.proofs.Batches.{held_emptied, held_stop, held_more, held_last}
 use Rattle.tables.proofs.Slots.{offsets_next, offsets_last}
 use Rattle.tables.proofs.feed.feed_offsets.Goals as goal
 
@@ -21,7 +21,7 @@ loop-n-preserved g c =
     let h : n < length gs = omega arith in
     let next = offsets_next s gs n o size.result h size.ensures.is in
     let rest = offsets_data s o (slots_from s gs n) in
-    let emptied = held-emptied (take c.loop-n.used bs) rest c.loop-n.invariant.3 (take free bs) room.1 in (
+    let emptied = held_emptied (take c.loop-n.used bs) rest c.loop-n.invariant.3 (take free bs) room.1 in (
       put.array_long,
       put.ensures.within,
       omega (arith, size.ensures.small, c.loop-n.invariant.2),
@@ -34,7 +34,7 @@ returns-in-err-free g c =
     let gs = g.P.TableParts.glyphs c.args.parts.now in
     let s = c.args.short in
     rw (q.1, q.2)
-    (held-stop (take c.loop-n.used c.loop-n.batch) (offsets_data s c.loop-n.offset (slots_from s gs c.loop-n.n)) c.loop-n.invariant.3 _ c.in-err-free.ensures)
+    (held_stop (take c.loop-n.used c.loop-n.batch) (offsets_data s c.loop-n.offset (slots_from s gs c.loop-n.n)) c.loop-n.invariant.3 _ c.in-err-free.ensures)
 
 pub returns-in-err-free-2 : goal.returns-in-err-free-2
 returns-in-err-free-2 g c =
@@ -42,7 +42,7 @@ returns-in-err-free-2 g c =
     let gs = g.P.TableParts.glyphs c.args.parts.now in
     let s = c.args.short in
     rw (q.1, q.2)
-    (held-stop (take c.loop-n.used c.loop-n.batch) (offsets_data s c.loop-n.offset (slots_from s gs c.loop-n.n)) c.loop-n.invariant.3 _ c.in-err-free-2.ensures)
+    (held_stop (take c.loop-n.used c.loop-n.batch) (offsets_data s c.loop-n.offset (slots_from s gs c.loop-n.n)) c.loop-n.invariant.3 _ c.in-err-free-2.ensures)
 
 pub returns : goal.returns
 returns g c =
@@ -55,7 +55,7 @@ returns g c =
     let put = c.put-offset-last in
     let e : n ≡ length gs = omega arith in
     let rest = offsets_data s o (slots_from s gs n) in
-    let emptied = held-emptied (take c.loop-n.used bs) rest c.loop-n.invariant.3 (take free bs) c.in-ok-free-2.ensures.1 in
+    let emptied = held_emptied (take c.loop-n.used bs) rest c.loop-n.invariant.3 (take free bs) c.in-ok-free-2.ensures.1 in
     let held = take put.result put.new.batch in
     let part = held_more (take free bs) rest emptied held (offset_bytes s o) [] (offsets_last s gs n o e) put.ensures.put in
     let is : take (put.result - 0) put.new.batch ≡ held = ap (λ (k : ℕ). take k put.new.batch) (omega arith) in

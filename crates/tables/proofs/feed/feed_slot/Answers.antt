@@ -4,7 +4,7 @@ use Rattle.format.proofs.Padded.{pad, padded_pad}
 use Rattle.write.proofs.Laws.{handed_allowance}
 use Rattle.write.proofs.Feeding.{fed_whole, fed_then, fed_stop}
 use Rattle.tables.specs.Parts.{is_padded, glyph_at}
-use Rattle.tables.proofs.Pads.{with-pad, without-pad}
+use Rattle.tables.proofs.Pads.{with_pad, without_pad}
 use Rattle.tables.proofs.feed.feed_slot.Goals as goal
 
 pub returns-in-err-feed-glyph : goal.returns-in-err-feed-glyph
@@ -20,7 +20,7 @@ returns-then-is-padded g c =
     let fed = c.in-ok-feed-glyph.ensures.outcome in
     let size : c.allowance-before.result - c.allowance.result ≡ length b = omega (arith, handed_allowance fed) in
     let padded-so : is_padded s (length b) ≡ true = ap (is_padded s) (sym size) ∙ sym c.if-is-padded.ensures in
-    rw (with-pad s b padded-so) (fed_then c.take.result fed (fed_whole c.take.result c.take.ensures))
+    rw (with_pad s b padded-so) (fed_then c.take.result fed (fed_whole c.take.result c.take.ensures))
 
 pub returns : goal.returns
 returns g c =
@@ -29,4 +29,4 @@ returns g c =
     let fed = c.in-ok-feed-glyph.ensures in
     let size : c.allowance-before.result - c.allowance.result ≡ length b = omega (arith, handed_allowance fed.outcome) in
     let left_so : is_padded s (length b) ≡ false = ap (is_padded s) (sym size) ∙ sym c.if-is-padded.ensures in
-    rw (without-pad s b left_so) fed
+    rw (without_pad s b left_so) fed

@@ -1,7 +1,7 @@
 use Rattle.std.proofs.Common.{◌≡◌, ◌+◌, ◌<◌, length, arith}
 use Rattle.std.proofs.lemmas.Result.{err_from_is_err_and}
 use Rattle.format.specs.Table.{padded}
-use Rattle.write.proofs.Feeding.{part_none, part-more, part-stop, part_done}
+use Rattle.write.proofs.Feeding.{part_none, part_more, part_stop, part_done}
 use Rattle.tables.specs.Parts.{glyph_at, slots_from, slots_data}
 use Rattle.tables.proofs.Slots.{slots_next, slots_none}
 use Rattle.tables.proofs.feed.feed_slots.Goals as goal
@@ -15,7 +15,7 @@ loop-n-preserved g c =
     let s = c.args.short in
     let n = c.loop-n.n in
     let h : n < length gs = omega arith in
-    part-more (padded s (glyph_at gs n)) (slots_data (slots_from s gs (n + 1))) (slots_next s gs n h) c.loop-n.invariant c.in-ok-feed-slot.ensures.outcome
+    part_more (padded s (glyph_at gs n)) (slots_data (slots_from s gs (n + 1))) (slots_next s gs n h) c.loop-n.invariant c.in-ok-feed-slot.ensures.outcome
 
 pub returns-in-err-feed-slot : goal.returns-in-err-feed-slot
 returns-in-err-feed-slot g c =
@@ -25,7 +25,7 @@ returns-in-err-feed-slot g c =
     let n = c.loop-n.n in
     let h : n < length gs = omega arith in
     rw (q.1, q.2)
-    (part-stop (padded s (glyph_at gs n)) (slots_data (slots_from s gs (n + 1))) (slots_next s gs n h) c.loop-n.invariant _ c.in-err-feed-slot.ensures)
+    (part_stop (padded s (glyph_at gs n)) (slots_data (slots_from s gs (n + 1))) (slots_next s gs n h) c.loop-n.invariant _ c.in-err-feed-slot.ensures)
 
 pub returns : goal.returns
 returns g c =

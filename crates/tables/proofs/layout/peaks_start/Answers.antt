@@ -1,6 +1,6 @@
 use Rattle.std.proofs.Common.{ℕ, ◌+◌, ◌*◌, ◌≤◌, sym, ap, ◌∙◌, mul-le-mul, arith}
 use Rattle.tables.specs.Parts.{width_of}
-use Rattle.tables.proofs.Slots.{offsets-sized, width_most}
+use Rattle.tables.proofs.Slots.{offsets_sized, width_most}
 use Rattle.tables.proofs.layout.peaks_start.Goals as goal
 
 pub returns : goal.returns
@@ -15,6 +15,6 @@ returns g c =
       is =
           ap (λ (k : ℕ). 20 + k * (n + 1)) c.width.ensures
           ∙ ap (λ (k : ℕ). 20 + width_of c.args.short * (k + 1)) c.glyph_count.ensures.is
-          ∙ ap (λ (k : ℕ). 20 + k) (sym (offsets-sized c.args.short gs));
+          ∙ ap (λ (k : ℕ). 20 + k) (sym (offsets_sized c.args.short gs));
       small = omega arith;
     }

@@ -1,5 +1,5 @@
 use Rattle.std.proofs.Common.{arith}
-use Rattle.tables.proofs.Whole.{table-size, slots-few}
+use Rattle.tables.proofs.Whole.{table_size, slots_few}
 use Rattle.tables.proofs.layout.table_length.Goals as goal
 
 pub returns : goal.returns
@@ -8,6 +8,6 @@ returns g c =
     let a = g.P.TableParts.axes c.args.parts.now in
     let l = c.args.layout in
     record {
-      is = λ h. omega (arith, table-size a gs l h, slots-few a gs l h, c.slots-start.ensures.is, c.slots-start.ensures.small, c.saturating-add.ensures);
-      small = λ h. omega (arith, slots-few a gs l h, c.slots-start.ensures.small, c.saturating-add.ensures);
+      is = λ h. omega (arith, table_size a gs l h, slots_few a gs l h, c.slots-start.ensures.is, c.slots-start.ensures.small, c.saturating-add.ensures);
+      small = λ h. omega (arith, slots_few a gs l h, c.slots-start.ensures.small, c.saturating-add.ensures);
     }

@@ -1,6 +1,6 @@
 use Rattle.std.proofs.Common.{◌≡◌, ◌<◌, ◌≤◌, min, not, length, sym, ap, ◌∙◌, arith, rules}
 use Rattle.format.specs.Glyphs.{bounds_implied}
-use Rattle.tuples.proofs.Regions.{tent_at, region-go, region-stop, region-end}
+use Rattle.tuples.proofs.Regions.{tent_at, region_go, region_stop, region_end}
 use Rattle.tuples.proofs.header.stores_region.Goals as goal
 
 pub returns-then-requires-intermediate : goal.returns-then-requires-intermediate
@@ -11,7 +11,7 @@ returns-then-requires-intermediate c =
     let i = c.loop-i.i in
     let h : i < min (min (length ps) (length ss)) (length es) = omega (arith, c.min.ensures, c.min-n.ensures) in
     let is : c.requires-intermediate.result ≡ not (bounds_implied (tent_at ps ss es i)) = search rules in
-    sym (ap not (c.loop-i.invariant ∙ region-stop ps ss es i c.requires-intermediate.result h is c.if-requires-intermediate.true))
+    sym (ap not (c.loop-i.invariant ∙ region_stop ps ss es i c.requires-intermediate.result h is c.if-requires-intermediate.true))
 
 pub loop-i-preserved : goal.loop-i-preserved
 loop-i-preserved c =
@@ -21,7 +21,7 @@ loop-i-preserved c =
     let i = c.loop-i.i in
     let h : i < min (min (length ps) (length ss)) (length es) = omega (arith, c.min.ensures, c.min-n.ensures) in
     let is : c.requires-intermediate.result ≡ not (bounds_implied (tent_at ps ss es i)) = search rules in
-    c.loop-i.invariant ∙ region-go ps ss es i c.requires-intermediate.result h is c.if-requires-intermediate.false
+    c.loop-i.invariant ∙ region_go ps ss es i c.requires-intermediate.result h is c.if-requires-intermediate.false
 
 pub returns : goal.returns
 returns c =
@@ -30,4 +30,4 @@ returns c =
     let es = c.args.end.now in
     let i = c.loop-i.i in
     let h : min (min (length ps) (length ss)) (length es) ≤ i = omega (arith, c.min.ensures, c.min-n.ensures) in
-    sym (ap not (c.loop-i.invariant ∙ region-end ps ss es i h))
+    sym (ap not (c.loop-i.invariant ∙ region_end ps ss es i h))

@@ -1,6 +1,6 @@
 use Rattle.std.proofs.Common.{◌≡◌, ◌+◌, ◌-◌, ◌∷◌, sym, refl, ap, ◌∙◌, arith, rules}
 use Rattle.variations.specs.Gaps.{gaps_from}
-use Rattle.variations.proofs.GapCuts.{gap_found, points-skip, points_end}
+use Rattle.variations.proofs.GapCuts.{gap_found, points_skip, points_end}
 use Rattle.variations.proofs.gaps.next_gap.Goals as goal
 
 pub returns-then-deltas-i : goal.returns-then-deltas-i
@@ -15,7 +15,7 @@ returns-then-deltas-i c =
 
 pub loop-i-preserved : goal.loop-i-preserved
 loop-i-preserved c =
-    (omega arith, c.loop-i.invariant.1 ∙ points-skip c.args.deltas.now c.loop-i.i _ c.loop-i-test.true c.if-deltas-i.false)
+    (omega arith, c.loop-i.invariant.1 ∙ points_skip c.args.deltas.now c.loop-i.i _ c.loop-i-test.true c.if-deltas-i.false)
 
 pub returns : goal.returns
 returns c = rw (c.loop-i.invariant.1, points_end c.args.deltas.now c.loop-i.i c.loop-i-test.false) refl

@@ -1,8 +1,8 @@
 use Rattle.std.proofs.Common.{Err, sym, ◌∙◌, subst}
 use Rattle.std.proofs.lemmas.Result.{err_from_is_err_and}
-use Rattle.write.proofs.Feeding.{fed_whole, part-more, part-stop}
+use Rattle.write.proofs.Feeding.{fed_whole, part_more, part_stop}
 use Rattle.variations.specs.Gaps.{gaps_from, gap_runs_bytes, GapRunAt}
-use Rattle.variations.proofs.GapRuns.{gap-runs-step, gap-run-taken}
+use Rattle.variations.proofs.GapRuns.{gap_runs_step, gap_run_taken}
 use Rattle.variations.proofs.points.feed_gap_runs.Goals as goal
 
 pub put-gap-run-n-requires : goal.put-gap-run-n-requires
@@ -20,9 +20,9 @@ returns-in-err-take g c =
     let p = c.loop-run.runs.place in
     let r = c.in-Some.run' in
     let h : GapRunAt ds p r = subst (λ l. GapRunAt l p r) c.loop-run.invariant.1 c.in-Some.ensures.run in
-    let is = gap-run-taken ds p r h c.put-gap-run-n.result c.put-gap-run-n.new.batch c.put-gap-run-n.ensures.bytes in
+    let is = gap_run_taken ds p r h c.put-gap-run-n.result c.put-gap-run-n.new.batch c.put-gap-run-n.ensures.bytes in
     rw (q.1, q.2)
-    (part-stop _ (gap_runs_bytes (gaps_from ds r.after)) (gap-runs-step ds p r h) c.loop-run.invariant.3 _ (fed_whole (Err _) (rw is at c.in-err-take.ensures)))
+    (part_stop _ (gap_runs_bytes (gaps_from ds r.after)) (gap_runs_step ds p r h) c.loop-run.invariant.3 _ (fed_whole (Err _) (rw is at c.in-err-take.ensures)))
 
 pub loop-run-preserved : goal.loop-run-preserved
 loop-run-preserved g c =
@@ -31,9 +31,9 @@ loop-run-preserved g c =
     let p = c.loop-run.runs.place in
     let r = c.in-Some.run' in
     let h : GapRunAt ds p r = subst (λ l. GapRunAt l p r) c.loop-run.invariant.1 n.run in
-    let is = gap-run-taken ds p r h c.put-gap-run-n.result c.put-gap-run-n.new.batch c.put-gap-run-n.ensures.bytes in (
+    let is = gap_run_taken ds p r h c.put-gap-run-n.result c.put-gap-run-n.new.batch c.put-gap-run-n.ensures.bytes in (
       c.put-gap-run-n.array_long,
       n.deltas ∙ c.loop-run.invariant.1,
       rw n.place h.within,
-      rw n.place (part-more _ (gap_runs_bytes (gaps_from ds r.after)) (gap-runs-step ds p r h) c.loop-run.invariant.3 (rw is at c.in-ok-take.ensures)),
+      rw n.place (part_more _ (gap_runs_bytes (gaps_from ds r.after)) (gap_runs_step ds p r h) c.loop-run.invariant.3 (rw is at c.in-ok-take.ensures)),
     )

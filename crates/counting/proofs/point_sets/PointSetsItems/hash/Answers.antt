@@ -1,6 +1,6 @@
 use Rattle.std.proofs.Common.{ap, ◌∙◌, arith}
 use Rattle.counting.specs.PointSets.{hash_of}
-use Rattle.counting.proofs.Views.{points-shown}
+use Rattle.counting.proofs.Views.{points_shown}
 use Rattle.counting.proofs.point_sets.PointSetsItems.hash.Goals as goal
 
 pub overflow-add-self : goal.overflow-add-self
@@ -12,7 +12,7 @@ hash-stored-requires c = c.in-Some.ensures.1.few
 pub returns-in-Some : goal.returns-in-Some
 returns-in-Some c =
     let s = c.args.self.now in
-    c.hash-stored.ensures ∙ ap hash_of (points-shown s.set.now s.first s.count c.args.i c.requires s.within _ c.in-Some.v c.in-Some.ensures.1)
+    c.hash-stored.ensures ∙ ap hash_of (points_shown s.set.now s.first s.count c.args.i c.requires s.within _ c.in-Some.v c.in-Some.ensures.1)
 
 pub returns-in-None : goal.returns-in-None
 returns-in-None c =

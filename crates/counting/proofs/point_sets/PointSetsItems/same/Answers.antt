@@ -4,7 +4,7 @@ use Rattle.format.specs.Glyphs.{same_points}
 use Rattle.variations.specs.Deltas.{deltas_of}
 use Rattle.tuples.specs.Choice.{kept_points}
 use Rattle.counting.specs.PointSets.{sets_of}
-use Rattle.counting.proofs.Views.{points-shown}
+use Rattle.counting.proofs.Views.{points_shown}
 use Rattle.counting.proofs.point_sets.PointSetsItems.same.Goals as goal
 
 pub overflow-add-self : goal.overflow-add-self
@@ -16,5 +16,5 @@ returns-in-Some-view c =
     let a = c.in-Some.a in
     let b = c.in-Some-view.b in
     c.same-stored.ensures
-    ∙ ap (λ (p : Points). same_points p (kept_points b.stored.all (deltas_of b.deltas.now))) (points-shown s.set.now s.first s.count c.args.i c.requires.left s.within _ a c.in-Some.ensures.1)
-    ∙ ap (λ (p : Points). same_points (get_or (sets_of s.set.now s.first s.count) c.args.i every) p) (points-shown s.set.now s.first s.count c.args.j c.requires.right s.within _ b c.in-Some-view.ensures.1)
+    ∙ ap (λ (p : Points). same_points p (kept_points b.stored.all (deltas_of b.deltas.now))) (points_shown s.set.now s.first s.count c.args.i c.requires.left s.within _ a c.in-Some.ensures.1)
+    ∙ ap (λ (p : Points). same_points (get_or (sets_of s.set.now s.first s.count) c.args.i every) p) (points_shown s.set.now s.first s.count c.args.j c.requires.right s.within _ b c.in-Some-view.ensures.1)

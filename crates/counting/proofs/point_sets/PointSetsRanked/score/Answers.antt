@@ -1,5 +1,5 @@
 use Rattle.std.proofs.Common.{ℕ, ◌-◌, ◌*◌, ◌≤◌, ap, mul-le-mul, arith}
-use Rattle.counting.proofs.Views.{size-shown, size-most}
+use Rattle.counting.proofs.Views.{size_shown, size_most}
 use Rattle.counting.proofs.point_sets.PointSetsRanked.score.Goals as goal
 
 pub overflow-add-self : goal.overflow-add-self
@@ -9,7 +9,7 @@ pub overflow-mul-result : goal.overflow-mul-result
 overflow-mul-result c =
     let s = c.args.self.now in
     let p = c.in-Some.v.stored.points in
-    let m : p ≤ 98303 = size-most s.set.now s.first s.count c.args.first c.requires.inside s.within _ c.in-Some.v c.in-Some.ensures.1 in
+    let m : p ≤ 98303 = size_most s.set.now s.first s.count c.args.first c.requires.inside s.within _ c.in-Some.v c.in-Some.ensures.1 in
     let f = s.few.0 in
     let q = c.requires.most in
     let n : c.args.count - 1 ≤ 4095 = omega arith in
@@ -19,4 +19,4 @@ overflow-mul-result c =
 pub returns-in-Some : goal.returns-in-Some
 returns-in-Some c =
     let s = c.args.self.now in
-    ap (λ (k : ℕ). (c.args.count - 1) * k) (size-shown s.set.now s.first s.count c.args.first c.requires.inside s.within _ c.in-Some.v c.in-Some.ensures.1)
+    ap (λ (k : ℕ). (c.args.count - 1) * k) (size_shown s.set.now s.first s.count c.args.first c.requires.inside s.within _ c.in-Some.v c.in-Some.ensures.1)

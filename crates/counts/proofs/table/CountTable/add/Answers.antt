@@ -3,9 +3,9 @@ use Rattle.counts.specs.declared.cells.CountCell.{CountCell}
 use Rattle.counts.specs.Cells.{entered, chained}
 use Rattle.counts.specs.Tables.{LeavesRanks}
 use Rattle.counts.specs.Chains.{State}
-use Rattle.counts.proofs.Classes.{first-le}
-use Rattle.counts.proofs.Steps.{leaves_more, entered-leaves, chained-leaves}
-use Rattle.counts.proofs.Adds.{state-fits, state-joins, state-starts}
+use Rattle.counts.proofs.Classes.{first_le}
+use Rattle.counts.proofs.Steps.{leaves_more, entered_leaves, chained_leaves}
+use Rattle.counts.proofs.Adds.{state_fits, state_joins, state_starts}
 use Rattle.counts.proofs.table.CountTable.add.Goals as goal
 
 pub enter-requires : goal.enter-requires
@@ -14,8 +14,8 @@ enter-requires g c =
     let h = c.find-first.ensures in
     record {
       within = omega (arith, c.requires.along.long);
-      order = omega (arith, first-le s c.args.i c.requires.inside);
-      fits = state-fits s _ _ _ c.requires.inside h c.requires.along;
+      order = omega (arith, first_le s c.args.i c.requires.inside);
+      fits = state_fits s _ _ _ c.requires.inside h c.requires.along;
     }
 
 pub chain-requires : goal.chain-requires
@@ -23,8 +23,8 @@ chain-requires g c =
     let s = g.I.Items.sameness c.args.items.now in
     let long = c.requires.along.long in
     let within : c.args.i < length c.args.self.now.cells.now = omega arith in
-    let le : c.find-first.result ≤ c.args.i = omega (arith, first-le s c.args.i c.requires.inside) in
-    let same = ap length c.enter.ensures.value ∙ (entered-leaves c.args.self.now.cells.now c.args.i c.find-first.result within le _ c.requires.inside).long in
+    let le : c.find-first.result ≤ c.args.i = omega (arith, first_le s c.args.i c.requires.inside) in
+    let same = ap length c.enter.ensures.value ∙ (entered_leaves c.args.self.now.cells.now c.args.i c.find-first.result within le _ c.requires.inside).long in
     let m : c.hash.result % c.count-n.result < c.count-n.result = mod-lt _ (omega arith) in
     record { within = omega arith; bucket = omega arith }
 
@@ -40,8 +40,8 @@ returns-then-first-i g c =
     let hi = c.requires.inside in
     let h = c.find-first.ensures in
     let within : i < length old = omega arith in
-    let le : f ≤ i = omega (arith, first-le s i hi) in
-    let one = entered-leaves old i f within le n hi in
+    let le : f ≤ i = omega (arith, first_le s i hi) in
+    let one = entered_leaves old i f within le n hi in
     let m : b < c.count-n.result = mod-lt _ (omega arith) in
     let lb : b < n = omega arith in
     let in1 : i < length (entered old i f) = omega (arith, one.long) in
@@ -49,8 +49,8 @@ returns-then-first-i g c =
     let bucket : b ≡ g.I.Items.code c.args.items.now i % n = ap (λ (x : ℕ). x % c.count-n.result) c.hash.ensures ∙ ap (λ (x : ℕ). g.I.Items.code c.args.items.now i % x) c.count-n.ensures in
     let is : c.chain.new.self.cells.now ≡ chained (entered old i f) i b = c.chain.ensures.value ∙ ap (λ (xs : List CountCell). chained xs i b) c.enter.ensures.value in
     record {
-      along = subst (λ (xs : List CountCell). State (g.I.Items.alike c.args.items.now) (g.I.Items.code c.args.items.now) n (i + 1) xs) (sym is) (state-starts s old i f hi c.requires.along h c.if-first-i.true b bucket lb);
-      rest = subst (λ (xs : List CountCell). LeavesRanks n old xs) (sym is) (leaves_more n old (entered old i f) _ one (chained-leaves (entered old i f) i b in1 in2 n hi lb));
+      along = subst (λ (xs : List CountCell). State (g.I.Items.alike c.args.items.now) (g.I.Items.code c.args.items.now) n (i + 1) xs) (sym is) (state_starts s old i f hi c.requires.along h c.if-first-i.true b bucket lb);
+      rest = subst (λ (xs : List CountCell). LeavesRanks n old xs) (sym is) (leaves_more n old (entered old i f) _ one (chained_leaves (entered old i f) i b in1 in2 n hi lb));
       kept = c.chain.ensures.kept ∙ c.enter.ensures.kept;
     }
 
@@ -65,12 +65,12 @@ returns-else-first-i g c =
     let hi = c.requires.inside in
     let h = c.find-first.ensures in
     let within : i < length old = omega arith in
-    let le : f ≤ i = omega (arith, first-le s i hi) in
+    let le : f ≤ i = omega (arith, first_le s i hi) in
     let ne = c.if-first-i.false in
     let lt : f < i = omega arith in
     let is = c.enter.ensures.value in
     record {
-      along = subst (λ (xs : List CountCell). State (g.I.Items.alike c.args.items.now) (g.I.Items.code c.args.items.now) n (i + 1) xs) (sym is) (state-joins s old i f hi c.requires.along h lt);
-      rest = subst (λ (xs : List CountCell). LeavesRanks n old xs) (sym is) (entered-leaves old i f within le n hi);
+      along = subst (λ (xs : List CountCell). State (g.I.Items.alike c.args.items.now) (g.I.Items.code c.args.items.now) n (i + 1) xs) (sym is) (state_joins s old i f hi c.requires.along h lt);
+      rest = subst (λ (xs : List CountCell). LeavesRanks n old xs) (sym is) (entered_leaves old i f within le n hi);
       kept = c.enter.ensures.kept;
     }

@@ -1,5 +1,5 @@
 use Rattle.std.proofs.Common.{◌≡◌, Some, refl, ap, arith}
-use Rattle.counts.proofs.Standings.{leading-some, leading-none, leading_inside}
+use Rattle.counts.proofs.Standings.{leading_some, leading_none, leading_inside}
 use Rattle.counts.proofs.table.CountTable.best.Goals as goal
 
 pub returns-then-self-n : goal.returns-then-self-n
@@ -14,7 +14,7 @@ returns-in-Some g c =
     let inv = c.loop-c.invariant in
     let done : c.loop-c.c ≡ g.R.Items.size c.args.items.now = omega arith in
     record {
-      value = λ t l. ap Some (leading-some s t (g.R.Ranked.worth c.args.items.now) c.loop-c.c c.loop-c.best c.in-Some.b done c.in-Some.is inv);
+      value = λ t l. ap Some (leading_some s t (g.R.Ranked.worth c.args.items.now) c.loop-c.c c.loop-c.best c.in-Some.b done c.in-Some.is inv);
       none = λ e. absurd (let k = leading_inside _ _ c.loop-c.c c.loop-c.best c.in-Some.b c.in-Some.is inv in let z : ⊥ = omega arith in z);
     }
 
@@ -24,6 +24,6 @@ returns-in-None g c =
     let inv = c.loop-c.invariant in
     let done : c.loop-c.c ≡ g.R.Items.size c.args.items.now = omega arith in
     record {
-      value = λ t l. absurd (leading-none s t (g.R.Ranked.worth c.args.items.now) c.loop-c.c c.loop-c.best done c.in-None.is inv l);
+      value = λ t l. absurd (leading_none s t (g.R.Ranked.worth c.args.items.now) c.loop-c.c c.loop-c.best done c.in-None.is inv l);
       none = λ e. refl;
     }

@@ -1,25 +1,25 @@
 use Rattle.std.proofs.Common.{◌-◌, ◌<◌, sym, mod-lt, arith}
-use Rattle.counts.proofs.Walks.{walk_start, walk-found, walk_more, walk_ends, walk-link, link_le}
+use Rattle.counts.proofs.Walks.{walk_start, walk_found, walk_more, walk_ends, walk_link, link_le}
 use Rattle.counts.proofs.table.CountTable.find.Goals as goal
 
 pub returns-then-same : goal.returns-then-same
 returns-then-same g c =
     let s = g.I.Items.sameness c.args.items.now in
     let a = g.I.Items.agrees c.args.items.now in
-    walk-found s a c.args.i c.loop-at.at c.requires.inside c.loop-at.invariant c.loop-at-test.true (sym c.if-same.ensures)
+    walk_found s a c.args.i c.loop-at.at c.requires.inside c.loop-at.invariant c.loop-at-test.true (sym c.if-same.ensures)
 
 pub loop-at-smaller : goal.loop-at-smaller
 loop-at-smaller g c =
     let s = g.I.Items.sameness c.args.items.now in
     let a = g.I.Items.agrees c.args.items.now in
-    let le = link_le _ _ _ (walk-link s a c.args.self.now.cells.now c.args.i c.loop-at.at c.requires.along c.loop-at.invariant c.loop-at-test.true) in
+    let le = link_le _ _ _ (walk_link s a c.args.self.now.cells.now c.args.i c.loop-at.at c.requires.along c.loop-at.invariant c.loop-at-test.true) in
     omega arith
 
 pub loop-at-preserved : goal.loop-at-preserved
 loop-at-preserved g c =
     let s = g.I.Items.sameness c.args.items.now in
     let a = g.I.Items.agrees c.args.items.now in
-    walk_more s a c.args.i c.loop-at.at _ c.requires.inside c.loop-at.invariant c.loop-at-test.true (sym c.if-same.ensures) (walk-link s a c.args.self.now.cells.now c.args.i c.loop-at.at c.requires.along c.loop-at.invariant c.loop-at-test.true)
+    walk_more s a c.args.i c.loop-at.at _ c.requires.inside c.loop-at.invariant c.loop-at-test.true (sym c.if-same.ensures) (walk_link s a c.args.self.now.cells.now c.args.i c.loop-at.at c.requires.along c.loop-at.invariant c.loop-at-test.true)
 
 pub returns : goal.returns
 returns g c =

@@ -6,8 +6,8 @@ use Rattle.counts.proofs.table.CountTable.mark.Goals as goal
 pub loop-r-init : goal.loop-r-init
 loop-r-init c = (marked_none _ _, refl)
 
-pub offset-bounds-self-c : goal.offset-bounds-self-c
-offset-bounds-self-c c =
+pub offset_bounds-self-c : goal.offset_bounds-self-c
+offset_bounds-self-c c =
     let m = c.loop-r.invariant.0 in
     let low : order_at c.loop-r.self.cells.now c.loop-r.r < c.args.n = subst (λ (x : ℕ). x < c.args.n) (sym (m.orders c.loop-r.r)) (c.requires.inside c.loop-r.r (omega arith)) in
     let h : order_at c.loop-r.self.cells.now c.loop-r.r < length c.loop-r.self.cells.now = omega (arith, m.rest.long) in

@@ -1,6 +1,6 @@
 use Rattle.std.proofs.Common.{ℕ, ◌<◌, refl, ◌∙◌, subst, arith}
 use Rattle.counts.specs.Marking.{LeavesUnmarked}
-use Rattle.counts.proofs.Led.{unmarked_same, best-led}
+use Rattle.counts.proofs.Led.{unmarked_same, best_led}
 use Rattle.counts.specs.Ranking.{score_of}
 use Rattle.counts.proofs.table.CountTable.mark_best.Goals as goal
 
@@ -17,11 +17,11 @@ returns g c =
     let alike = g.R.Items.alike c.args.items.now in
     let score = score_of size alike (g.R.Ranked.worth c.args.items.now) in
     let e = c.count-n.ensures in
-    let b = c.mark-class.ensures in
+    let b = c.mark_class.ensures in
     record {
       marks = λ t i l.
           let m : i < c.count-n.result = omega arith in
-          b.marks i m ∙ best-led t score c.best-best.result i l (c.best-best.ensures.value t (omega arith));
-      rest = subst (λ (x : ℕ). LeavesUnmarked x c.args.self.now.cells.now c.mark-class.new.self.cells.now) e b.rest;
+          b.marks i m ∙ best_led t score c.best-best.result i l (c.best-best.ensures.value t (omega arith));
+      rest = subst (λ (x : ℕ). LeavesUnmarked x c.args.self.now.cells.now c.mark_class.new.self.cells.now) e b.rest;
       kept = b.kept;
     }

@@ -5,7 +5,7 @@ use Rattle.counts.specs.Ranking.{listed, score_of, classes, Standing, LeavesCoun
 use Rattle.counts.specs.Heaps.{Entries}
 use Rattle.counts.proofs.Classes.{count_le}
 use Rattle.counts.proofs.Swaps.{counts_more, counts_wider, entries_same}
-use Rattle.counts.proofs.Ranks.{all-classes, standing}
+use Rattle.counts.proofs.Ranks.{all_classes, standing}
 use Rattle.counts.proofs.table.CountTable.rank.Goals as goal
 
 pub sort-requires : goal.sort-requires
@@ -55,7 +55,7 @@ returns g c =
     let s : Sameness alike n = subst (λ (x : ℕ). Sameness alike x) (sym e) (g.R.Items.sameness c.args.items.now) in
     record {
       count = λ t. subst (λ (x : ℕ). k ≡ classes x alike) e
-          (all-classes s worth k start listing sorting marking spreading a.count a.entries a.apart a.rest b.sorted b.moved b.rest
+          (all_classes s worth k start listing sorting marking spreading a.count a.entries a.apart a.rest b.sorted b.moved b.rest
           (subst (λ (x : ℕ). Filled alike x start) (sym e) t));
       ranked = λ t. subst (λ (x : ℕ). Standing alike (score_of x alike worth) x spreading) e
           (standing s worth k start listing sorting marking spreading a.count a.entries a.apart a.rest b.sorted b.moved b.rest

@@ -1,6 +1,6 @@
 use Rattle.std.proofs.Common.{◌<◌, ◌≢◌, length, get_or, refl, ◌∙◌, arith, below_more}
 use Rattle.counts.specs.Cells.{blank, with_head}
-use Rattle.counts.proofs.Steps.{field-same, field-other, leaves_same, leaves_more, leaves_set}
+use Rattle.counts.proofs.Steps.{field_same, field_other, leaves_same, leaves_more, leaves_set}
 use Rattle.counts.proofs.table.CountTable.reset.Goals as goal
 
 pub loop-i-init : goal.loop-i-init
@@ -13,7 +13,7 @@ loop-i-preserved c =
     let i = c.loop-i.i in
     let zero = with_head (get_or old i blank) 0 in
     let within : i < length old = omega (arith, inv.1.long) in (
-      below_more _ _ (λ k l. let ne : k ≢ i = omega arith in field-other (λ x. x.head) old i zero k ne ∙ inv.0 k l) (field-same (λ x. x.head) old i zero within),
+      below_more _ _ (λ k l. let ne : k ≢ i = omega arith in field_other (λ x. x.head) old i zero k ne ∙ inv.0 k l) (field_same (λ x. x.head) old i zero within),
       leaves_more _ _ _ _ inv.1 (leaves_set c.args.n i old zero (omega arith) within refl refl),
       inv.2,
     )

@@ -1,10 +1,10 @@
 use Rattle.std.proofs.Common.{arith}
 use Rattle.parts.specs.OfStore.{store_variations}
 use Rattle.parts.proofs.Stores.{store_long}
-use Rattle.parts.proofs.Pieces.{data-told}
+use Rattle.parts.proofs.Pieces.{data_told}
 use Rattle.parts.proofs.store.GlyphStore.data.Goals as goal
 
 pub returns : goal.returns
 returns c =
     let s = c.args.self.now in
-    data-told _ c.variation-v.result (store_variations s) c.args.j (omega (arith, store_long s)) c.variation-v.ensures c.is-shared.result c.is-shared.ensures
+    data_told _ c.variation-v.result (store_variations s) c.args.j (omega (arith, store_long s)) c.variation-v.ensures c.is-shared.result c.is-shared.ensures

@@ -2,14 +2,14 @@ use Rattle.std.proofs.Common.{◌≡◌, ◌+◌, true, false, length, arith}
 use Rattle.stores.specs.Parts.{variation_at, data_in}
 use Rattle.parts.specs.OfStore.{store_variations}
 use Rattle.parts.proofs.Stores.{store_long}
-use Rattle.parts.proofs.Pieces.{points_few, values-few, size-told}
+use Rattle.parts.proofs.Pieces.{points_few, values_few, size_told}
 use Rattle.parts.proofs.store.GlyphStore.data_length.Goals as goal
 
 pub overflow-add-result : goal.overflow-add-result
 overflow-add-result c =
     let v = c.variation.result in
     let p = points_few _ v _ c.variation.ensures in
-    let q = values-few _ v _ c.variation.ensures in
+    let q = values_few _ v _ c.variation.ensures in
     omega arith
 
 pub returns-then-is-shared : goal.returns-then-is-shared
@@ -17,8 +17,8 @@ returns-then-is-shared c =
     let vs = store_variations c.args.self.now in
     let v = c.variation.result in
     let e : 0 + v.stored.values ≡ length (data_in vs (variation_at vs c.args.j)) =
-    size-told _ v vs c.args.j (omega (arith, store_long c.args.self.now)) c.variation.ensures true c.if-is-shared.ensures in
-    let q = values-few _ v _ c.variation.ensures in
+    size_told _ v vs c.args.j (omega (arith, store_long c.args.self.now)) c.variation.ensures true c.if-is-shared.ensures in
+    let q = values_few _ v _ c.variation.ensures in
     record { size = omega arith; most = omega arith }
 
 pub returns-else-is-shared : goal.returns-else-is-shared
@@ -26,7 +26,7 @@ returns-else-is-shared c =
     let vs = store_variations c.args.self.now in
     let v = c.variation.result in
     let e : v.stored.points + v.stored.values ≡ length (data_in vs (variation_at vs c.args.j)) =
-    size-told _ v vs c.args.j (omega (arith, store_long c.args.self.now)) c.variation.ensures false c.if-is-shared.ensures in
+    size_told _ v vs c.args.j (omega (arith, store_long c.args.self.now)) c.variation.ensures false c.if-is-shared.ensures in
     let p = points_few _ v _ c.variation.ensures in
-    let q = values-few _ v _ c.variation.ensures in
+    let q = values_few _ v _ c.variation.ensures in
     record { size = e; most = omega arith }

@@ -1,11 +1,11 @@
 use Rattle.std.proofs.Common.{arith}
 use Rattle.parts.specs.OfStore.{store_peaks, store_variations}
 use Rattle.parts.proofs.Stores.{store_long}
-use Rattle.parts.proofs.Pieces.{header-told}
+use Rattle.parts.proofs.Pieces.{header_told}
 use Rattle.parts.proofs.store.GlyphStore.header.Goals as goal
 
 pub returns : goal.returns
 returns c =
     let s = c.args.self.now in
-    header-told _ c.variation-v.result (store_variations s) c.args.j (omega (arith, store_long s)) c.variation-v.ensures c.is-shared.result c.is-shared.ensures
+    header_told _ c.variation-v.result (store_variations s) c.args.j (omega (arith, store_long s)) c.variation-v.ensures c.is-shared.result c.is-shared.ensures
     (store_peaks s) c.data-length.result c.index.result c.stores-region.result c.data-length.ensures.size c.index.ensures c.stores-region.ensures

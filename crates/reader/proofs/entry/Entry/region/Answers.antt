@@ -1,7 +1,7 @@
 use Rattle.std.proofs.Common.{◌≡◌, ◌+◌, ◌-◌, ◌*◌, true, sym, ap, ◌∙◌, arith}
 use Rattle.std.proofs.lemmas.Bool.{cond-true}
 use Rattle.format.specs.Reader.{is_regional}
-use Rattle.reader.proofs.TupleSteps.{starts-are, starts-inside, ends-are, ends-inside}
+use Rattle.reader.proofs.TupleSteps.{starts_are, starts_inside, ends_are, ends_inside}
 use Rattle.reader.proofs.TupleHolds.{holds_of}
 use Rattle.reader.proofs.entry.Entry.region.Goals as goal
 
@@ -17,9 +17,9 @@ returns c =
     record {
       stored = sym is;
       bounds = λ x w. (
-        holds_of e.table c.tuple-at.result e.slot.now w.slot_end s x.start w.in-table (starts-inside e.slot.now w.header a e.head w.head is s es) c.tuple-at.ensures
-            (ap (λ y. y.start) w.is_entry ∙ cond-true _ _ _ is ∙ starts-are e.slot.now w.header a e.head w.head is s es),
-        holds_of e.table c.tuple-at-2.result e.slot.now w.slot_end n x.end w.in-table (ends-inside e.slot.now w.header a e.head w.head is n en) c.tuple-at-2.ensures
-            (ap (λ y. y.end) w.is_entry ∙ cond-true _ _ _ is ∙ ends-are e.slot.now w.header a e.head w.head is n en),
+        holds_of e.table c.tuple-at.result e.slot.now w.slot_end s x.start w.in-table (starts_inside e.slot.now w.header a e.head w.head is s es) c.tuple-at.ensures
+            (ap (λ y. y.start) w.is_entry ∙ cond-true _ _ _ is ∙ starts_are e.slot.now w.header a e.head w.head is s es),
+        holds_of e.table c.tuple-at-2.result e.slot.now w.slot_end n x.end w.in-table (ends_inside e.slot.now w.header a e.head w.head is n en) c.tuple-at-2.ensures
+            (ap (λ y. y.end) w.is_entry ∙ cond-true _ _ _ is ∙ ends_are e.slot.now w.header a e.head w.head is n en),
       );
     }

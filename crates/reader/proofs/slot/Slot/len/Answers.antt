@@ -1,6 +1,6 @@
 use Rattle.std.proofs.Common.{◌-◌, drop, sym, ◌∙◌}
 use Rattle.format.specs.Reader.{checked}
-use Rattle.reader.proofs.SlotWalkSteps.{heads-count, entries-count}
+use Rattle.reader.proofs.SlotWalkSteps.{heads_count, entries_count}
 use Rattle.reader.proofs.slot.Slot.len.Goals as goal
 
 pub returns : goal.returns
@@ -10,6 +10,6 @@ returns c =
       bound = c.saturating-sub.ensures;
       entries = λ es w.
           c.saturating-sub.ensures
-          ∙ sym (heads-count w.glyph s.table.head.axes (s.count - s.i) s.i (drop s.header s.bytes.now) s.header w.headers w.left w.past w.heads_read)
-          ∙ sym (entries-count (checked s.table.bytes.now) w.glyph s.p w.set s.i w.headers (drop s.body s.bytes.now) s.body es w.after w.end w.entries_read);
+          ∙ sym (heads_count w.glyph s.table.head.axes (s.count - s.i) s.i (drop s.header s.bytes.now) s.header w.headers w.left w.past w.heads_read)
+          ∙ sym (entries_count (checked s.table.bytes.now) w.glyph s.p w.set s.i w.headers (drop s.body s.bytes.now) s.body es w.after w.end w.entries_read);
     }

@@ -1,7 +1,7 @@
 use Rattle.std.proofs.Common.{◌≡◌, ◌+◌, ◌-◌, Bool, List, [], ◌∷◌, take, drop, sym, refl, ap, ◌∙◌, subst, arith}
 use Rattle.format.specs.Reader.{checked, is_private, read_entries, entry_of, header_of}
 use Rattle.slots.proofs.HeadSteps.{not_both, un_one}
-use Rattle.slots.proofs.WalkSteps.{good-entry, moved}
+use Rattle.slots.proofs.WalkSteps.{good_entry, moved}
 use Rattle.reader.specs.SlotWalks.{ListOf}
 use Rattle.reader.proofs.SlotWalkSteps.{peaks_next, list_read}
 use Rattle.reader.proofs.slot.Slot.next.Goals as goal
@@ -27,7 +27,7 @@ returns-in-Ok c =
           let g = w.glyph in
           let a = s.table.head.axes in
           let h = header_of a s.header q.head.size q.head.index y.head.values in
-          let m = good-entry k g s.p w.set s.i s.bytes.now s.header s.body a s.count w.headers w.left w.past (omega arith) w.heads_read s.shared q w.number y in
+          let m = good_entry k g s.p w.set s.i s.bytes.now s.header s.body a s.count w.headers w.left w.past (omega arith) w.heads_read s.shared q w.number y in
           let r = y.parts w.set w.number in
           let x = entry_of k h s.p r.set r.xs r.ys in
           let u = un_one x (read_entries k g s.p w.set (s.i + 1) m.0 (drop q.next s.bytes.now) q.next) es w.after w.end (sym m.2 ∙ w.entries_read) in

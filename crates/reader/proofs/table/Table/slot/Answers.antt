@@ -1,7 +1,7 @@
 use Rattle.std.proofs.Common.{◌≡◌, ◌+◌, ◌-◌, take, drop, Ok, sym, refl, ap, ◌∙◌, arith}
 use Rattle.format.specs.Reader.{checked, read_bytes_of_slot, read_slot}
 use Rattle.slots.specs.Slots.{SlotChecked}
-use Rattle.reader.proofs.SlotPlaces.{first-inside, second-inside, located}
+use Rattle.reader.proofs.SlotPlaces.{first_inside, second_inside, located}
 use Rattle.reader.proofs.table.Table.slot.Goals as goal
 
 pub returns-in-Err : goal.returns-in-Err
@@ -14,7 +14,7 @@ returns-in-Err c w =
     let at = h.data_at + c.offset.result in
     let place : read_slot (checked bs) g p ≡ read_bytes_of_slot (checked bs) g p (drop at c.upto-bytes.result.now) at =
     located bs g p h w.its_head w.no_fault t c.offset.result c.offset-2.result
-    (c.offset.ensures (first-inside bs g p h w.its_head w.no_fault t)) (c.offset-2.ensures (second-inside bs g p h w.its_head w.no_fault t))
+    (c.offset.ensures (first_inside bs g p h w.its_head w.no_fault t)) (c.offset-2.ensures (second_inside bs g p h w.its_head w.no_fault t))
     ∙ ap (λ l. read_bytes_of_slot (checked bs) g p (drop at l) at) (sym c.upto-bytes.ensures) in
     place ∙ c.in-Err.ensures (checked bs) g (sym (ap (λ x. x.axes) w.its_head)) (sym (ap (λ x. x.peaks) w.its_head))
 
@@ -28,7 +28,7 @@ returns-in-Ok c w =
     let at = h.data_at + c.offset.result in
     let place : read_slot (checked bs) g p ≡ read_bytes_of_slot (checked bs) g p (drop at c.upto-bytes.result.now) at =
     located bs g p h w.its_head w.no_fault t c.offset.result c.offset-2.result
-    (c.offset.ensures (first-inside bs g p h w.its_head w.no_fault t)) (c.offset-2.ensures (second-inside bs g p h w.its_head w.no_fault t))
+    (c.offset.ensures (first_inside bs g p h w.its_head w.no_fault t)) (c.offset-2.ensures (second_inside bs g p h w.its_head w.no_fault t))
     ∙ ap (λ l. read_bytes_of_slot (checked bs) g p (drop at l) at) (sym c.upto-bytes.ensures) in
     let k : SlotChecked c.upto-bytes.result.now at h.axes h.peaks p (Ok c.in-Ok.s) = c.in-Ok.ensures in
     let q = k.entries_read (checked bs) g (sym (ap (λ x. x.axes) w.its_head)) (sym (ap (λ x. x.peaks) w.its_head)) in

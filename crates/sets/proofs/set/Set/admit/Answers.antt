@@ -1,6 +1,6 @@
 use Rattle.std.proofs.Common.{◌<◌, sym, ◌∙◌, arith}
 use Rattle.sets.specs.OfSet.{stores, sound_of}
-use Rattle.sets.proofs.Admit.{wrong-tents, many_deltas, unlike, many_variations, no_room, passes, admitted}
+use Rattle.sets.proofs.Admit.{wrong_tents, many_deltas, unlike, many_variations, no_room, passes, admitted}
 use Rattle.sets.proofs.set.Set.admit.Goals as goal
 
 pub returns-then-tents-get : goal.returns-then-tents-get
@@ -9,7 +9,7 @@ returns-then-tents-get c =
     let any : 0 < s.begun = omega arith in
     record {
       room = tt;
-      answers = wrong-tents (stores s) (sound_of s) any c.args.tents.now c.args.deltas.now c.last-last.result c.last-last.ensures.is
+      answers = wrong_tents (stores s) (sound_of s) any c.args.tents.now c.args.deltas.now c.last-last.result c.last-last.ensures.is
           (λ e. c.if-tents-get.true (e ∙ sym c.get.ensures.is));
     }
 

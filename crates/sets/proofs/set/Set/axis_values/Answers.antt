@@ -2,7 +2,7 @@ use Rattle.std.proofs.Common.{◌≡◌, ℕ, ◌-◌, ◌*◌, List, length, ta
 use Rattle.format.specs.Table.{variation_count}
 use Rattle.sets.specs.OfSet.{stores, sound_of, glyphs_of}
 use Rattle.sets.specs.Rows.{rows}
-use Rattle.sets.proofs.Peaked.{used-long, used-rows}
+use Rattle.sets.proofs.Peaked.{used_long, used_rows}
 use Rattle.sets.proofs.set.Set.axis_values.Goals as goal
 
 pub returns : goal.returns
@@ -11,6 +11,6 @@ returns c =
     let n : c.used-values-n.result - 0 ≡ 3 * s.axes.count * s.added = omega (arith, c.used-values-n.ensures) in
     let e = ap (λ (k : ℕ). take k s.values.now) n in
     record {
-      long = ap length e ∙ used-long (stores s) (sound_of s);
-      rows = ap (λ (xs : List ℤ). rows s.axes.count xs (variation_count (glyphs_of s))) e ∙ used-rows (stores s) (sound_of s);
+      long = ap length e ∙ used_long (stores s) (sound_of s);
+      rows = ap (λ (xs : List ℤ). rows s.axes.count xs (variation_count (glyphs_of s))) e ∙ used_rows (stores s) (sound_of s);
     }

@@ -1,13 +1,13 @@
 use Rattle.std.proofs.Common.{Some, sym, refl, ap, ◌∙◌, arith}
 use Rattle.streams.specs.declared.deltas.RunKind.TheVariants.{OfZeros, OfBytes, OfWords}
 use Rattle.streams.specs.Ahead.{answer_of, rest_of}
-use Rattle.streams.proofs.DeltaSteps.{lacks-control, passes_count, lacks-kind, enters}
+use Rattle.streams.proofs.DeltaSteps.{lacks_control, passes_count, lacks_kind, enters}
 use Rattle.streams.proofs.deltas.DeltaCursor.enter.Goals as goal
 
 pub returns-then-self : goal.returns-then-self
 returns-then-self c =
     let s = c.args.self.now in
-    let e = lacks-control s.table.now s.control s.at s.left s.state c.requires (omega arith) (omega arith) in
+    let e = lacks_control s.table.now s.control s.at s.left s.state c.requires (omega arith) (omega arith) in
     record { answer = ap answer_of (sym e); ahead = e ∙ ap rest_of (sym e); same = refl }
 
 pub returns-then-self-n : goal.returns-then-self-n
@@ -16,10 +16,10 @@ returns-then-self-n c =
     let e = passes_count s.table.now s.control s.at s.left s.state c.requires (omega arith) (omega arith) (omega arith) in
     record { answer = ap answer_of (sym e); ahead = e ∙ ap rest_of (sym e); same = refl }
 
-pub returns-in-default : goal.returns-in-default
-returns-in-default c =
+pub returns-in_default : goal.returns-in_default
+returns-in_default c =
     let s = c.args.self.now in
-    let e = lacks-kind s.table.now s.control s.at s.left s.state c.requires (omega arith) (omega arith) (omega arith) (sym c.run_kind.ensures ∙ c.in-default.is) in
+    let e = lacks_kind s.table.now s.control s.at s.left s.state c.requires (omega arith) (omega arith) (omega arith) (sym c.run_kind.ensures ∙ c.in_default.is) in
     record { answer = ap answer_of (sym e); ahead = e ∙ ap rest_of (sym e); same = refl }
 
 pub returns-in-OfZeros : goal.returns-in-OfZeros

@@ -1,13 +1,13 @@
 use Rattle.std.proofs.Common.{true, false, sym, refl, ap, ◌∙◌, arith}
 use Rattle.std.proofs.lemmas.Bool.{le-leb, lt-leb}
 use Rattle.streams.specs.Ahead.{answer_of, rest_of}
-use Rattle.streams.proofs.PointSteps.{lacks-control, passes_count, enters}
+use Rattle.streams.proofs.PointSteps.{lacks_control, passes_count, enters}
 use Rattle.streams.proofs.points.PointCursor.enter.Goals as goal
 
 pub returns-then-self : goal.returns-then-self
 returns-then-self c =
     let s = c.args.self.now in
-    let e = lacks-control s.p s.table.now s.from s.low s.control s.at s.left s.state c.requires (omega arith) (omega arith) in
+    let e = lacks_control s.p s.table.now s.from s.low s.control s.at s.left s.state c.requires (omega arith) (omega arith) in
     record { answer = ap answer_of (sym e); ahead = e ∙ ap rest_of (sym e); same = refl }
 
 pub returns-then-self-n : goal.returns-then-self-n

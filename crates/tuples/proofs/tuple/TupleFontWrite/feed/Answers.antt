@@ -1,6 +1,6 @@
 use Rattle.std.proofs.Common.{◌+◌, drop, Err}
 use Rattle.std.proofs.lemmas.Result.{err_from_is_err_and}
-use Rattle.write.proofs.Feeding.{fed_whole, part-more, part-stop, part_done}
+use Rattle.write.proofs.Feeding.{fed_whole, part_more, part_stop, part_done}
 use Rattle.format.specs.Bytes.{signed_words}
 use Rattle.tuples.proofs.Words.{words_step, batch_taken, batch_within, words_end}
 use Rattle.tuples.proofs.tuple.TupleFontWrite.feed.Goals as goal
@@ -13,7 +13,7 @@ returns-in-err-take g c =
     let n = c.pack-n.result in
     let is = batch_taken zs i n c.pack-n.new.batch c.pack-n.ensures.words in
     rw (q.1, q.2)
-    (part-stop _ (signed_words (drop (i + n) zs)) (words_step zs i n) c.loop-i.invariant.2 _ (fed_whole (Err _) (rw is at c.in-err-take.ensures)))
+    (part_stop _ (signed_words (drop (i + n) zs)) (words_step zs i n) c.loop-i.invariant.2 _ (fed_whole (Err _) (rw is at c.in-err-take.ensures)))
 
 pub loop-i-preserved : goal.loop-i-preserved
 loop-i-preserved g c =
@@ -24,7 +24,7 @@ loop-i-preserved g c =
     let is = batch_taken zs i n c.pack-n.new.batch c.pack-n.ensures.words in (
       c.pack-n.array_long,
       w.0,
-      part-more _ (signed_words (drop (i + n) zs)) (words_step zs i n) c.loop-i.invariant.2 (rw is at c.in-ok-take.ensures),
+      part_more _ (signed_words (drop (i + n) zs)) (words_step zs i n) c.loop-i.invariant.2 (rw is at c.in-ok-take.ensures),
     )
 
 pub returns : goal.returns

@@ -1,10 +1,10 @@
 use Rattle.std.proofs.Common.{Err, sym, ◌∙◌, subst}
 use Rattle.std.proofs.lemmas.Result.{err_from_is_err_and}
-use Rattle.write.proofs.Feeding.{fed_whole, part-more, part-stop}
+use Rattle.write.proofs.Feeding.{fed_whole, part_more, part_stop}
 use Rattle.format.specs.Packed.{packed_deltas}
 use Rattle.variations.specs.Deltas.{values_from}
 use Rattle.variations.specs.Runs.{RunAt}
-use Rattle.variations.proofs.Sizes.{packed_step, run-taken}
+use Rattle.variations.proofs.Sizes.{packed_step, run_taken}
 use Rattle.variations.proofs.packing.PackedDeltasFontWrite.feed.Goals as goal
 
 pub put-run-n-requires : goal.put-run-n-requires
@@ -22,9 +22,9 @@ returns-in-err-take g c =
     let p = c.loop-run.runs.place in
     let r = c.in-Some.run' in
     let h : RunAt v p r = subst (λ w. RunAt w p r) c.loop-run.invariant.1 c.in-Some.ensures.run in
-    let is = run-taken v p r h c.put-run-n.result c.put-run-n.new.batch c.put-run-n.ensures.bytes in
+    let is = run_taken v p r h c.put-run-n.result c.put-run-n.new.batch c.put-run-n.ensures.bytes in
     rw (q.1, q.2)
-    (part-stop _ (packed_deltas (values_from v r.after)) (packed_step v p r h) c.loop-run.invariant.3 _ (fed_whole (Err _) (rw is at c.in-err-take.ensures)))
+    (part_stop _ (packed_deltas (values_from v r.after)) (packed_step v p r h) c.loop-run.invariant.3 _ (fed_whole (Err _) (rw is at c.in-err-take.ensures)))
 
 pub loop-run-preserved : goal.loop-run-preserved
 loop-run-preserved g c =
@@ -33,9 +33,9 @@ loop-run-preserved g c =
     let p = c.loop-run.runs.place in
     let r = c.in-Some.run' in
     let h : RunAt v p r = subst (λ w. RunAt w p r) c.loop-run.invariant.1 n.run in
-    let is = run-taken v p r h c.put-run-n.result c.put-run-n.new.batch c.put-run-n.ensures.bytes in (
+    let is = run_taken v p r h c.put-run-n.result c.put-run-n.new.batch c.put-run-n.ensures.bytes in (
       c.put-run-n.array_long,
       n.values ∙ c.loop-run.invariant.1,
       rw n.place h.within,
-      rw n.place (part-more _ (packed_deltas (values_from v r.after)) (packed_step v p r h) c.loop-run.invariant.3 (rw is at c.in-ok-take.ensures)),
+      rw n.place (part_more _ (packed_deltas (values_from v r.after)) (packed_step v p r h) c.loop-run.invariant.3 (rw is at c.in-ok-take.ensures)),
     )

@@ -6,8 +6,8 @@ use Rattle.write.proofs.Folds.{folded_kept}
 use Rattle.write.proofs.Laws.{handed_all, handed_full}
 use Rattle.write.proofs.buffer.BufferSink.take.Goals as goal
 
-pub returns-then-n-saturating-sub : goal.returns-then-n-saturating-sub
-returns-then-n-saturating-sub c = handed_full (omega arith)
+pub returns-then-n-saturating_sub : goal.returns-then-n-saturating_sub
+returns-then-n-saturating_sub c = handed_full (omega arith)
 
 pub returns-then-n-gt0 : goal.returns-then-n-gt0
 returns-then-n-gt0 c =

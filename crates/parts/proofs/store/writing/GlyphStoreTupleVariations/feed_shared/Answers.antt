@@ -4,7 +4,7 @@ use Rattle.write.proofs.Laws.{handed_none}
 use Rattle.tuples.proofs.Pieces.{fed_as}
 use Rattle.parts.specs.OfStore.{store_variations}
 use Rattle.parts.proofs.Stores.{store_long}
-use Rattle.parts.proofs.Pieces.{points-told, shared-told, none_shared}
+use Rattle.parts.proofs.Pieces.{points_told, shared_told, none_shared}
 use Rattle.parts.proofs.store.writing.GlyphStoreTupleVariations.feed_shared.Goals as goal
 
 pub returns-in-Some : goal.returns-in-Some
@@ -14,8 +14,8 @@ returns-in-Some g c =
     let h = c.variation-v.ensures in
     fed_as
     (ap packed_points c.point-numbers.ensures.points
-    ∙ points-told _ v _ h
-    ∙ shared-told _ v (store_variations s) c.in-Some.j (omega (arith, store_long s, c.in-Some.ensures.0)) h c.in-Some.ensures.1)
+    ∙ points_told _ v _ h
+    ∙ shared_told _ v (store_variations s) c.in-Some.j (omega (arith, store_long s, c.in-Some.ensures.0)) h c.in-Some.ensures.1)
     c.feed.ensures
 
 pub returns-in-None : goal.returns-in-None

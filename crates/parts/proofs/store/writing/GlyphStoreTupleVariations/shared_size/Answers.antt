@@ -1,7 +1,7 @@
 use Rattle.std.proofs.Common.{length, sym, ap, ◌∙◌, arith}
 use Rattle.parts.specs.OfStore.{store_variations}
 use Rattle.parts.proofs.Stores.{store_long}
-use Rattle.parts.proofs.Pieces.{points_few, shared-told, none_shared}
+use Rattle.parts.proofs.Pieces.{points_few, shared_told, none_shared}
 use Rattle.parts.proofs.store.writing.GlyphStoreTupleVariations.shared_size.Goals as goal
 
 pub returns-in-Some : goal.returns-in-Some
@@ -11,7 +11,7 @@ returns-in-Some c =
     let h = c.variation.ensures in
     let p = points_few _ v _ h in
     record {
-      size = h.stored.points_are ∙ ap length (shared-told _ v (store_variations s) c.in-Some.j (omega (arith, store_long s, c.in-Some.ensures.0)) h c.in-Some.ensures.1);
+      size = h.stored.points_are ∙ ap length (shared_told _ v (store_variations s) c.in-Some.j (omega (arith, store_long s, c.in-Some.ensures.0)) h c.in-Some.ensures.1);
       most = omega arith;
     }
 
