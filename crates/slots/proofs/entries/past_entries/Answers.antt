@@ -8,14 +8,14 @@ loop-i-init c = entries_none c.args.table.now c.args.header c.args.body c.args.a
 
 pub loop-i-preserved : goal.loop-i-preserved
 loop-i-preserved c =
-    entries_more c.args.table.now c.args.header c.args.body c.args.axes c.args.p c.args.count c.args.shared c.loop-i.i c.loop-i.h c.loop-i.place c.in-ok-s.s
-    c.loop-i-test.true c.loop-i.invariant c.in-ok-s.ensures
+    entries_more c.args.table.now c.args.header c.args.body c.args.axes c.args.p c.args.count c.args.shared c.loop-i.i c.loop-i.h c.loop-i.place c.in_ok-s.s
+    c.loop-i-test.true c.loop-i.invariant c.in_ok-s.ensures
 
-pub returns-in-err-s : goal.returns-in-err-s
-returns-in-err-s c =
+pub returns-in_err-s : goal.returns-in_err-s
+returns-in_err-s c =
     let m = entries_fault c.args.table.now c.args.header c.args.body c.args.axes c.args.p c.args.count c.args.shared c.loop-i.i c.loop-i.h c.loop-i.place
-    (λ g. slot_declined g c.in-err-s.field-0.0) c.loop-i-test.true c.loop-i.invariant c.in-err-s.ensures in
-    let p = err_from_is_err_and c.from-residual.result c.from-residual.ensures.1 in
+    (λ g. slot_declined g c.in_err-s.field-0.0) c.loop-i-test.true c.loop-i.invariant c.in_err-s.ensures in
+    let p = err_from_is_err_and c.from_residual.result c.from_residual.ensures.1 in
     rw (p.1, p.2) m
 
 pub returns : goal.returns

@@ -8,15 +8,15 @@ loop-i-init c = peaks_none c.args.table.now c.args.at c.args.axes c.args.count c
 pub loop-i-preserved : goal.loop-i-preserved
 loop-i-preserved c =
     peaks_more c.args.table.now c.args.at c.args.axes c.args.count c.args.peaks c.loop-i.i c.loop-i.place c.in-Some.h c.loop-i-test.true c.loop-i.invariant c.in-Some.ensures
-    (sym c.lacks-peak.ensures ∙ c.if-lacks-peak.false)
+    (sym c.lacks_peak.ensures ∙ c.if-lacks_peak.false)
 
-pub returns-in-default : goal.returns-in-default
-returns-in-default c = peaks_never c.args.table.now c.args.at c.args.axes c.args.count c.args.peaks c.loop-i.i c.loop-i.place c.loop-i-test.true c.loop-i.invariant c.in-default.ensures
+pub returns-in_default : goal.returns-in_default
+returns-in_default c = peaks_never c.args.table.now c.args.at c.args.axes c.args.count c.args.peaks c.loop-i.i c.loop-i.place c.loop-i-test.true c.loop-i.invariant c.in_default.ensures
 
-pub returns-then-lacks-peak : goal.returns-then-lacks-peak
-returns-then-lacks-peak c =
+pub returns-then-lacks_peak : goal.returns-then-lacks_peak
+returns-then-lacks_peak c =
     peaks_here c.args.table.now c.args.at c.args.axes c.args.count c.args.peaks c.loop-i.i c.loop-i.place c.in-Some.h c.loop-i-test.true c.loop-i.invariant c.in-Some.ensures
-    (sym c.lacks-peak.ensures ∙ c.if-lacks-peak.true)
+    (sym c.lacks_peak.ensures ∙ c.if-lacks_peak.true)
 
 pub returns : goal.returns
 returns c = peaks_all c.args.table.now c.args.at c.args.axes c.args.count c.args.peaks c.loop-i.i c.loop-i.place c.loop-i-test.false c.loop-i.invariant

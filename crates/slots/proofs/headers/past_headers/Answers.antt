@@ -7,8 +7,8 @@ loop-i-init c = so_far_none c.args.table.now c.args.at c.args.axes c.args.count
 pub loop-i-preserved : goal.loop-i-preserved
 loop-i-preserved c = so_far_more c.args.table.now c.args.at c.args.axes c.args.count c.loop-i.i c.loop-i.place c.in-Some.h c.loop-i-test.true c.loop-i.invariant c.in-Some.ensures
 
-pub returns-in-default : goal.returns-in-default
-returns-in-default c = so_far_fault c.args.table.now c.args.at c.args.axes c.args.count c.loop-i.i c.loop-i.place c.loop-i-test.true c.loop-i.invariant c.in-default.ensures
+pub returns-in_default : goal.returns-in_default
+returns-in_default c = so_far_fault c.args.table.now c.args.at c.args.axes c.args.count c.loop-i.i c.loop-i.place c.loop-i-test.true c.loop-i.invariant c.in_default.ensures
 
 pub returns : goal.returns
 returns c = so_far_all c.args.table.now c.args.at c.args.axes c.args.count c.loop-i.i c.loop-i.place c.loop-i-test.false c.loop-i.invariant

@@ -7,8 +7,8 @@ returns-then-have-lt4 c = no_four c.args.axes c.args.table.now c.args.at (omega 
 
 pub returns-then-have-words : goal.returns-then-have-words
 returns-then-have-words c =
-    no_tuples c.args.axes c.args.table.now c.args.at _ c.tuple-words-words.result (omega arith) (omega arith) c.tuple-words-words.ensures (omega arith)
+    no_tuples c.args.axes c.args.table.now c.args.at _ c.tuple_words-words.result (omega arith) (omega arith) c.tuple_words-words.ensures (omega arith)
 
 pub returns : goal.returns
 returns c =
-    head_read c.args.axes c.args.table.now c.args.at _ _ c.tuple-words-words.result _ (omega arith) (omega arith) (omega arith) c.tuple-words-words.ensures (omega arith) refl
+    head_read c.args.axes c.args.table.now c.args.at _ _ c.tuple_words-words.result _ (omega arith) (omega arith) (omega arith) c.tuple_words-words.ensures (omega arith) refl

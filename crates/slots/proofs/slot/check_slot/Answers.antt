@@ -13,5 +13,5 @@ returns-then-have-lt4 c k g ea ek = slot_two k g c.args.p c.args.table.now c.arg
 
 pub returns : goal.returns
 returns c =
-    recheck c.args.table.now c.args.axes c.args.peaks c.args.p _ _ c.check-store.result
-    (λ k g. slot_store k g c.args.p c.args.table.now c.args.at _ _ (omega arith) (omega arith) (omega arith)) c.check-store.ensures
+    recheck c.args.table.now c.args.axes c.args.peaks c.args.p _ _ c.check_store.result
+    (λ k g. slot_store k g c.args.p c.args.table.now c.args.at _ _ (omega arith) (omega arith) (omega arith)) c.check_store.ensures

@@ -5,14 +5,14 @@ use Rattle.stores.specs.Parts.{variation_at, header_in}
 use Rattle.stores.proofs.Joining.{left_at, left_more, left_none}
 use Rattle.stores.proofs.feed.feed_headers.Goals as goal
 
-pub returns-in-err-feed-header : goal.returns-in-err-feed-header
-returns-in-err-feed-header g c =
-    let q = err_from_is_err_and c.from-residual.result c.from-residual.ensures.1 in
+pub returns-in_err-feed_header : goal.returns-in_err-feed_header
+returns-in_err-feed_header g c =
+    let q = err_from_is_err_and c.from_residual.result c.from_residual.ensures.1 in
     let t = g.T.TupleVariations in
     let ps = t.peaks c.args.store.now in
     let vs = t.variations c.args.store.now in
     let j = c.loop-j.j in
-    rw (q.1, q.2) (part_stop (header_in ps vs (variation_at vs j)) (left_at (header_in ps vs) vs (j + 1)) (left_more (header_in ps vs) vs j (omega arith)) c.loop-j.invariant _ c.in-err-feed-header.ensures)
+    rw (q.1, q.2) (part_stop (header_in ps vs (variation_at vs j)) (left_at (header_in ps vs) vs (j + 1)) (left_more (header_in ps vs) vs j (omega arith)) c.loop-j.invariant _ c.in_err-feed_header.ensures)
 
 pub loop-j-preserved : goal.loop-j-preserved
 loop-j-preserved g c =
@@ -20,7 +20,7 @@ loop-j-preserved g c =
     let ps = t.peaks c.args.store.now in
     let vs = t.variations c.args.store.now in
     let j = c.loop-j.j in
-    part_more (header_in ps vs (variation_at vs j)) (left_at (header_in ps vs) vs (j + 1)) (left_more (header_in ps vs) vs j (omega arith)) c.loop-j.invariant c.in-ok-feed-header.ensures.outcome
+    part_more (header_in ps vs (variation_at vs j)) (left_at (header_in ps vs) vs (j + 1)) (left_more (header_in ps vs) vs j (omega arith)) c.loop-j.invariant c.in_ok-feed_header.ensures.outcome
 
 pub returns : goal.returns
 returns g c =

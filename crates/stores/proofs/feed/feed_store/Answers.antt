@@ -16,43 +16,43 @@ returns-then-count-eq0 g c =
     let store = c.args.store.now in
     fed_as (sym (no_bytes (t.peaks store) (t.variations store) (omega arith))) (fed_whole (Ok tt) handed_none)
 
-pub returns-in-err-take : goal.returns-in-err-take
-returns-in-err-take g c =
-    let q = err_from_is_err_and c.from-residual.result c.from-residual.ensures.1 in
+pub returns-in_err-take : goal.returns-in_err-take
+returns-in_err-take g c =
+    let q = err_from_is_err_and c.from_residual.result c.from_residual.ensures.1 in
     let t = g.T.TupleVariations in
     let store = c.args.store.now in
-    let words = c.first-words-words.ensures in
+    let words = c.first_words-words.ensures in
     rw (q.1, q.2)
-    (fed_as (store_parts (t.peaks store) (t.variations store) (omega arith)) (fed_stop _ _ (fed_whole (Err _) (rw words at c.in-err-take.ensures))))
+    (fed_as (store_parts (t.peaks store) (t.variations store) (omega arith)) (fed_stop _ _ (fed_whole (Err _) (rw words at c.in_err-take.ensures))))
 
-pub returns-in-err-feed-headers : goal.returns-in-err-feed-headers
-returns-in-err-feed-headers g c =
-    let q = err_from_is_err_and c.from-residual-in-err-feed-headers.result c.from-residual-in-err-feed-headers.ensures.1 in
+pub returns-in_err-feed_headers : goal.returns-in_err-feed_headers
+returns-in_err-feed_headers g c =
+    let q = err_from_is_err_and c.from_residual-in_err-feed_headers.result c.from_residual-in_err-feed_headers.ensures.1 in
     let t = g.T.TupleVariations in
     let store = c.args.store.now in
-    let words = c.first-words-words.ensures in
+    let words = c.first_words-words.ensures in
     rw (q.1, q.2)
     (fed_as (store_parts (t.peaks store) (t.variations store) (omega arith))
-    (fed_then (Err _) (rw words at c.in-ok-take.ensures) (fed_stop _ _ c.in-err-feed-headers.ensures)))
+    (fed_then (Err _) (rw words at c.in_ok-take.ensures) (fed_stop _ _ c.in_err-feed_headers.ensures)))
 
-pub returns-in-err-feed-shared : goal.returns-in-err-feed-shared
-returns-in-err-feed-shared g c =
-    let q = err_from_is_err_and c.from-residual-in-err-feed-shared.result c.from-residual-in-err-feed-shared.ensures.1 in
+pub returns-in_err-feed_shared : goal.returns-in_err-feed_shared
+returns-in_err-feed_shared g c =
+    let q = err_from_is_err_and c.from_residual-in_err-feed_shared.result c.from_residual-in_err-feed_shared.ensures.1 in
     let t = g.T.TupleVariations in
     let store = c.args.store.now in
-    let words = c.first-words-words.ensures in
+    let words = c.first_words-words.ensures in
     rw (q.1, q.2)
     (fed_as (store_parts (t.peaks store) (t.variations store) (omega arith))
-    (fed_then (Err _) (rw words at c.in-ok-take.ensures)
-    (fed_then (Err _) c.in-ok-feed-headers.ensures.outcome (fed_stop _ _ c.in-err-feed-shared.ensures))))
+    (fed_then (Err _) (rw words at c.in_ok-take.ensures)
+    (fed_then (Err _) c.in_ok-feed_headers.ensures.outcome (fed_stop _ _ c.in_err-feed_shared.ensures))))
 
 pub returns : goal.returns
 returns g c =
     let t = g.T.TupleVariations in
     let store = c.args.store.now in
-    let words = c.first-words-words.ensures in
-    let r = c.feed-all-data.result in
+    let words = c.first_words-words.ensures in
+    let r = c.feed_all_data.result in
     fed_as (store_parts (t.peaks store) (t.variations store) (omega arith))
-    (fed_then r (rw words at c.in-ok-take.ensures)
-    (fed_then r c.in-ok-feed-headers.ensures.outcome
-    (fed_then r c.in-ok-feed-shared.ensures.outcome c.feed-all-data.ensures)))
+    (fed_then r (rw words at c.in_ok-take.ensures)
+    (fed_then r c.in_ok-feed_headers.ensures.outcome
+    (fed_then r c.in_ok-feed_shared.ensures.outcome c.feed_all_data.ensures)))

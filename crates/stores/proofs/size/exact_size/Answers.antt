@@ -13,6 +13,6 @@ returns g c =
     let t = g.T.TupleVariations in
     let store = c.args.store.now in
     record {
-      size = store_long (t.peaks store) (t.variations store) c.headers_size.result c.shared-size.result c.data-total.result (omega arith) c.headers_size.ensures.size c.shared-size.ensures.size c.data-total.ensures.size;
+      size = store_long (t.peaks store) (t.variations store) c.headers_size.result c.shared_size.result c.data_total.result (omega arith) c.headers_size.ensures.size c.shared_size.ensures.size c.data_total.ensures.size;
       most = omega arith;
     }

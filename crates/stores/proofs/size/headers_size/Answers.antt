@@ -8,7 +8,7 @@ loop-j-preserved g c =
     let t = g.T.TupleVariations in
     let ps = t.peaks c.args.store.now in
     let vs = t.variations c.args.store.now in
-    (sum_more (header_in ps vs) vs c.loop-j.j c.loop-j.size c.header-size-size.result _ (omega arith) c.header-size-size.ensures.size c.loop-j.invariant.0, omega arith)
+    (sum_more (header_in ps vs) vs c.loop-j.j c.loop-j.size c.header_size-size.result _ (omega arith) c.header_size-size.ensures.size c.loop-j.invariant.0, omega arith)
 
 pub returns : goal.returns
 returns g c =

@@ -9,22 +9,22 @@ returns-in-Err g c =
     let store = c.args.store.now in
     record { told = λ k. data_refused (t.peaks store) k (t.variations store) _ (c.in-Err.ensures.told k) }
 
-pub returns-then-offset-gt-MAX-DATA-OFFSET : goal.returns-then-offset-gt-MAX-DATA-OFFSET
-returns-then-offset-gt-MAX-DATA-OFFSET g c =
+pub returns-then-offset-gt-MAX_DATA_OFFSET : goal.returns-then-offset-gt-MAX_DATA_OFFSET
+returns-then-offset-gt-MAX_DATA_OFFSET g c =
     let t = g.T.TupleVariations in
     let store = c.args.store.now in
     let data_fits = c.in-Ok.ensures.told.0 in
-    record { told = λ k. headers_refused (t.peaks store) k (t.variations store) (data_fits k) c.headers-size-offset.result c.headers-size-offset.ensures.size c.if-offset-gt-MAX-DATA-OFFSET.true }
+    record { told = λ k. headers_refused (t.peaks store) k (t.variations store) (data_fits k) c.headers_size-offset.result c.headers_size-offset.ensures.size c.if-offset-gt-MAX_DATA_OFFSET.true }
 
 pub returns-then-count-eq0 : goal.returns-then-count-eq0
 returns-then-count-eq0 g c =
     let t = g.T.TupleVariations in
     let store = c.args.store.now in
     let data_fits = c.in-Ok.ensures.told.0 in
-    let headers = c.headers-size-offset in
+    let headers = c.headers_size-offset in
     record {
       told = (
-        λ k. all_within (t.peaks store) k (t.variations store) (data_fits k) headers.result headers.ensures.size c.if-offset-gt-MAX-DATA-OFFSET.false,
+        λ k. all_within (t.peaks store) k (t.variations store) (data_fits k) headers.result headers.ensures.size c.if-offset-gt-MAX_DATA_OFFSET.false,
         sym (ap length (no_bytes (t.peaks store) (t.variations store) (omega arith))),
         omega arith,
       );
@@ -35,11 +35,11 @@ returns g c =
     let t = g.T.TupleVariations in
     let store = c.args.store.now in
     let sized = c.in-Ok.ensures.told in
-    let headers = c.headers-size-offset in
-    let shared = c.shared-size-shared in
+    let headers = c.headers_size-offset in
+    let shared = c.shared_size-shared in
     record {
       told = (
-        λ k. all_within (t.peaks store) k (t.variations store) (sized.0 k) headers.result headers.ensures.size c.if-offset-gt-MAX-DATA-OFFSET.false,
+        λ k. all_within (t.peaks store) k (t.variations store) (sized.0 k) headers.result headers.ensures.size c.if-offset-gt-MAX_DATA_OFFSET.false,
         store_long (t.peaks store) (t.variations store) headers.result shared.result c.in-Ok.size (omega arith) headers.ensures.size shared.ensures.size sized.1,
         omega (arith, sized.2),
       );

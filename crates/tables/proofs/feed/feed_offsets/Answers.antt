@@ -14,10 +14,10 @@ loop-n-preserved g c =
     let n = c.loop-n.n in
     let o = c.loop-n.offset in
     let bs = c.loop-n.batch in
-    let free = c.in-ok-free.free in
-    let room = c.in-ok-free.ensures in
-    let put = c.put-offset-used in
-    let size = c.slot-size-offset in
+    let free = c.in_ok-free.free in
+    let room = c.in_ok-free.ensures in
+    let put = c.put_offset-used in
+    let size = c.slot_size-offset in
     let h : n < length gs = omega arith in
     let next = offsets_next s gs n o size.result h size.ensures.is in
     let rest = offsets_data s o (slots_from s gs n) in
@@ -28,21 +28,21 @@ loop-n-preserved g c =
       held_more (take free bs) rest emptied (take put.result put.new.batch) (offset_bytes s o) (offsets_data s (o + size.result) (slots_from s gs (n + 1))) next put.ensures.put,
     )
 
-pub returns-in-err-free : goal.returns-in-err-free
-returns-in-err-free g c =
-    let q = err_from_is_err_and c.from-residual.result c.from-residual.ensures.1 in
+pub returns-in_err-free : goal.returns-in_err-free
+returns-in_err-free g c =
+    let q = err_from_is_err_and c.from_residual.result c.from_residual.ensures.1 in
     let gs = g.P.TableParts.glyphs c.args.parts.now in
     let s = c.args.short in
     rw (q.1, q.2)
-    (held_stop (take c.loop-n.used c.loop-n.batch) (offsets_data s c.loop-n.offset (slots_from s gs c.loop-n.n)) c.loop-n.invariant.3 _ c.in-err-free.ensures)
+    (held_stop (take c.loop-n.used c.loop-n.batch) (offsets_data s c.loop-n.offset (slots_from s gs c.loop-n.n)) c.loop-n.invariant.3 _ c.in_err-free.ensures)
 
-pub returns-in-err-free-2 : goal.returns-in-err-free-2
-returns-in-err-free-2 g c =
-    let q = err_from_is_err_and c.from-residual-in-err-free-2.result c.from-residual-in-err-free-2.ensures.1 in
+pub returns-in_err-free-2 : goal.returns-in_err-free-2
+returns-in_err-free-2 g c =
+    let q = err_from_is_err_and c.from_residual-in_err-free-2.result c.from_residual-in_err-free-2.ensures.1 in
     let gs = g.P.TableParts.glyphs c.args.parts.now in
     let s = c.args.short in
     rw (q.1, q.2)
-    (held_stop (take c.loop-n.used c.loop-n.batch) (offsets_data s c.loop-n.offset (slots_from s gs c.loop-n.n)) c.loop-n.invariant.3 _ c.in-err-free-2.ensures)
+    (held_stop (take c.loop-n.used c.loop-n.batch) (offsets_data s c.loop-n.offset (slots_from s gs c.loop-n.n)) c.loop-n.invariant.3 _ c.in_err-free-2.ensures)
 
 pub returns : goal.returns
 returns g c =
@@ -51,11 +51,11 @@ returns g c =
     let n = c.loop-n.n in
     let o = c.loop-n.offset in
     let bs = c.loop-n.batch in
-    let free = c.in-ok-free-2.free in
-    let put = c.put-offset-last in
+    let free = c.in_ok-free-2.free in
+    let put = c.put_offset-last in
     let e : n ≡ length gs = omega arith in
     let rest = offsets_data s o (slots_from s gs n) in
-    let emptied = held_emptied (take c.loop-n.used bs) rest c.loop-n.invariant.3 (take free bs) c.in-ok-free-2.ensures.1 in
+    let emptied = held_emptied (take c.loop-n.used bs) rest c.loop-n.invariant.3 (take free bs) c.in_ok-free-2.ensures.1 in
     let held = take put.result put.new.batch in
     let part = held_more (take free bs) rest emptied held (offset_bytes s o) [] (offsets_last s gs n o e) put.ensures.put in
     let is : take (put.result - 0) put.new.batch ≡ held = ap (λ (k : ℕ). take k put.new.batch) (omega arith) in

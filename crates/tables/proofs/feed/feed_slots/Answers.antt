@@ -15,17 +15,17 @@ loop-n-preserved g c =
     let s = c.args.short in
     let n = c.loop-n.n in
     let h : n < length gs = omega arith in
-    part_more (padded s (glyph_at gs n)) (slots_data (slots_from s gs (n + 1))) (slots_next s gs n h) c.loop-n.invariant c.in-ok-feed-slot.ensures.outcome
+    part_more (padded s (glyph_at gs n)) (slots_data (slots_from s gs (n + 1))) (slots_next s gs n h) c.loop-n.invariant c.in_ok-feed_slot.ensures.outcome
 
-pub returns-in-err-feed-slot : goal.returns-in-err-feed-slot
-returns-in-err-feed-slot g c =
-    let q = err_from_is_err_and c.from-residual.result c.from-residual.ensures.1 in
+pub returns-in_err-feed_slot : goal.returns-in_err-feed_slot
+returns-in_err-feed_slot g c =
+    let q = err_from_is_err_and c.from_residual.result c.from_residual.ensures.1 in
     let gs = g.P.TableParts.glyphs c.args.parts.now in
     let s = c.args.short in
     let n = c.loop-n.n in
     let h : n < length gs = omega arith in
     rw (q.1, q.2)
-    (part_stop (padded s (glyph_at gs n)) (slots_data (slots_from s gs (n + 1))) (slots_next s gs n h) c.loop-n.invariant _ c.in-err-feed-slot.ensures)
+    (part_stop (padded s (glyph_at gs n)) (slots_data (slots_from s gs (n + 1))) (slots_next s gs n h) c.loop-n.invariant _ c.in_err-feed_slot.ensures)
 
 pub returns : goal.returns
 returns g c =

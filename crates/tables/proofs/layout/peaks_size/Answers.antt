@@ -3,11 +3,11 @@ use Rattle.tables.proofs.layout.peaks_size.Goals as goal
 
 pub returns : goal.returns
 returns g c =
-    let a = c.axis-count.result in
+    let a = c.axis_count.result in
     let n = c.shared_count.result in
     let small : a ≤ 65535 = omega arith in
     let most : a * n ≤ 65535 * 4095 = mul-le-mul small c.shared_count.ensures.few in
     record {
-      is = ap (λ (k : ℕ). 2 * (k * n)) c.axis-count.ensures ∙ sym c.shared_count.ensures.words;
+      is = ap (λ (k : ℕ). 2 * (k * n)) c.axis_count.ensures ∙ sym c.shared_count.ensures.words;
       small = omega arith;
     }

@@ -8,6 +8,6 @@ returns g c =
     let a = g.P.TableParts.axes c.args.parts.now in
     let l = c.args.layout in
     record {
-      is = λ h. omega (arith, table_size a gs l h, slots_few a gs l h, c.slots-start.ensures.is, c.slots-start.ensures.small, c.saturating-add.ensures);
-      small = λ h. omega (arith, slots_few a gs l h, c.slots-start.ensures.small, c.saturating-add.ensures);
+      is = λ h. omega (arith, table_size a gs l h, slots_few a gs l h, c.slots_start.ensures.is, c.slots_start.ensures.small, c.saturating_add.ensures);
+      small = λ h. omega (arith, slots_few a gs l h, c.slots_start.ensures.small, c.saturating_add.ensures);
     }

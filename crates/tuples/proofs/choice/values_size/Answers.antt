@@ -4,6 +4,6 @@ use Rattle.tuples.proofs.choice.values_size.Goals as goal
 
 pub returns : goal.returns
 returns c =
-    let p = c.compute-size.ensures in
-    let q = c.compute-size-2.ensures in
+    let p = c.compute_size.ensures in
+    let q = c.compute_size-2.ensures in
     record { size = coordinates_size c.args.all c.args.deltas.now _ _ p.size q.size; most = omega (arith, p.most, q.most) }

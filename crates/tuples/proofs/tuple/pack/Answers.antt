@@ -8,10 +8,10 @@ loop-i-preserved c =
     let zs = c.args.values.now in
     let i = c.loop-i.i in
     let bs = c.loop-i.batch in
-    let is : c.to-be-bytes-w.result ≡ word (of_z w16 (get_or zs i (pos 0))) = search rules in
+    let is : c.to_be_bytes-w.result ≡ word (of_z w16 (get_or zs i (pos 0))) = search rules in
     let in-batch : 2 * i + 1 < length bs = omega arith in
     let in-values : i < length zs = omega arith in
-    (simp length-set c.loop-i.invariant.0, words_more zs i (pos 0) bs c.to-be-bytes-w.result in-values in-batch is c.loop-i.invariant.1)
+    (simp length-set c.loop-i.invariant.0, words_more zs i (pos 0) bs c.to_be_bytes-w.result in-values in-batch is c.loop-i.invariant.1)
 
 pub returns : goal.returns
 returns c =

@@ -7,7 +7,7 @@ use Rattle.variations.proofs.packing.put_value.Goals as goal
 
 pub returns-in-Bytes : goal.returns-in-Bytes
 returns-in-Bytes c =
-    let is : c.to-be-bytes.result ≡ coded Words c.args.v = search rules in
+    let is : c.to_be_bytes.result ≡ coded Words c.args.v = search rules in
     let bs = c.args.batch.now in
     let h : c.args.at < length bs = search rules in
     record {
@@ -17,7 +17,7 @@ returns-in-Bytes c =
 
 pub returns-in-Words : goal.returns-in-Words
 returns-in-Words c =
-    let is : c.to-be-bytes.result ≡ coded Words c.args.v = search rules in
+    let is : c.to_be_bytes.result ≡ coded Words c.args.v = search rules in
     let bs = c.args.batch.now in
     let h : c.args.at + 1 < length bs = search rules in
     record {

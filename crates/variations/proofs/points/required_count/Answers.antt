@@ -5,8 +5,8 @@ use Rattle.variations.proofs.points.required_count.Goals as goal
 pub loop-d-preserved : goal.loop-d-preserved
 loop-d-preserved c =
     let i = c.loop-d.invariant in (
-      omega (arith, one_most c.args.deltas.now c.loop-d.d-index _ c.one-if-n.result c.one-if-n.ensures),
-      count_more c.args.deltas.now c.loop-d.d-index _ c.loop-d.n c.one-if-n.result _ c.loop-d-test.true c.one-if-n.ensures i.1,
+      omega (arith, one_most c.args.deltas.now c.loop-d.d-index _ c.one_if-n.result c.one_if-n.ensures),
+      count_more c.args.deltas.now c.loop-d.d-index _ c.loop-d.n c.one_if-n.result _ c.loop-d-test.true c.one_if-n.ensures i.1,
     )
 
 pub returns : goal.returns

@@ -6,4 +6,4 @@ abbrev pub invariant-loop-i : goal.invariant-loop-i
 invariant-loop-i l =
     (length l.self.cells.now ≡ length l.initial.self.cells.now)
     × ((k : ℕ) → k < l.i → get_or l.self.cells.now k blank ≡ blank)
-    × (l.self.cells.name ≡ l.initial.self.cells.name)
+    × (l.self.cells.ghost_name ≡ l.initial.self.cells.ghost_name)

@@ -33,7 +33,7 @@ loop-c-preserved c =
     let cells = c.loop-c.self.cells.now in
     let long : n ≤ length cells = omega (arith, inv.0.rest.long) in
     let l : i < n = omega arith in
-    let Goal : CountTable → ℕ → Type 0 = λ t m. Collected old n (i + 1) m t.cells.now × (t.cells.ghost_name ≡ c.args.self.now.cells.name) in
+    let Goal : CountTable → ℕ → Type 0 = λ t m. Collected old n (i + 1) m t.cells.now × (t.cells.ghost_name ≡ c.args.self.now.cells.ghost_name) in
     elim c.if-is_listed.branch [
       | then-is_listed w ↦
           subst (λ (m : ℕ). Goal c.if-is_listed.self m) (sym w.k-is)

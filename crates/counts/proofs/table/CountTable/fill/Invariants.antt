@@ -7,4 +7,4 @@ abbrev pub invariant-loop-i : goal.invariant-loop-i
 invariant-loop-i g l =
     State (g.I.Items.alike l.items) (g.I.Items.code l.items) (g.I.Items.size l.items) l.i l.self.cells.now
     × LeavesRanks (g.I.Items.size l.items) l.initial.self.cells.now l.self.cells.now
-    × (l.self.cells.name ≡ l.initial.self.cells.name)
+    × (l.self.cells.ghost_name ≡ l.initial.self.cells.ghost_name)

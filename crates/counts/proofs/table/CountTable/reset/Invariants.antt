@@ -7,4 +7,4 @@ abbrev pub invariant-loop-i : goal.invariant-loop-i
 invariant-loop-i l =
     ((k : ℕ) → k < l.i → head_at l.self.cells.now k ≡ 0)
     × LeavesRanks l.n l.initial.self.cells.now l.self.cells.now
-    × (l.self.cells.name ≡ l.initial.self.cells.name)
+    × (l.self.cells.ghost_name ≡ l.initial.self.cells.ghost_name)

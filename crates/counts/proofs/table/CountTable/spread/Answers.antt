@@ -14,7 +14,7 @@ loop-i-preserved c =
     let n = c.args.n in
     let i = c.loop-i.i in
     let cells = c.loop-i.self.cells.now in
-    let Goal : CountTable → Type 0 = λ t. Spread n (i + 1) old t.cells.now × (t.cells.ghost_name ≡ c.args.self.now.cells.name) in
+    let Goal : CountTable → Type 0 = λ t. Spread n (i + 1) old t.cells.now × (t.cells.ghost_name ≡ c.args.self.now.cells.ghost_name) in
     elim c.if-first-i.branch [
       | then-first-i w ↦ subst Goal (sym w.self-is) (spread_more n i old cells c.requires (omega arith) w.if-first-i.true inv.0, inv.1)
       | else-first-i w ↦ subst Goal (sym w.self-is) (spread_skips n i old cells w.if-first-i.false inv.0, inv.1)

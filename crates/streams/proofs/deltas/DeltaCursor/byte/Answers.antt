@@ -14,5 +14,5 @@ pub returns : goal.returns
 returns c =
     let s = c.args.self.now in
     let e = gives_byte s.table.now s.control s.at s.left s.state c.args.n c.state_of-self.result _ c.requires c.state_of-self.ensures c.if-self.false
-    (byte_value (get_or s.table.now s.at 0) c.cast_signed-v.result c.cast_signed-v.ok c.cast_signed-v.ensures) in
+    (byte_value (get_or s.table.now s.at 0) c.cast_signed-v.result c.cast_signed-v.type_inv c.cast_signed-v.ensures) in
     record { answer = ap answer_of (sym e); ahead = ap rest_of (sym e); same = refl }

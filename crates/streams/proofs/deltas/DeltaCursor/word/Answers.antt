@@ -14,5 +14,5 @@ pub returns : goal.returns
 returns c =
     let s = c.args.self.now in
     let e = gives_word s.table.now s.control s.at s.left s.state c.args.n c.state_of-self.result _ c.requires c.state_of-self.ensures (omega arith)
-    (word_value (get_or s.table.now s.at 0) (get_or s.table.now (s.at + 1) 0) c.from_be_bytes-v.result c.from_be_bytes-v.ok c.from_be_bytes-v.ensures) in
+    (word_value (get_or s.table.now s.at 0) (get_or s.table.now (s.at + 1) 0) c.from_be_bytes-v.result c.from_be_bytes-v.type_inv c.from_be_bytes-v.ensures) in
     record { answer = ap answer_of (sym e); ahead = ap rest_of (sym e); same = refl }

@@ -7,6 +7,6 @@ use Rattle.variations.proofs.deltas.PackedDeltas.next_run.Goals as goal
 pub returns : goal.returns
 returns c =
     let f : SFits w16 c.in-Some.v = search rules in
-    let e = c.run-end-count.ensures in
-    run_at c.args.self.now c.args.place c.in-Some.second _ _ c.in-Some.v c.kind-of-kind.result c.in-Some.ensures
-    (c.kind-of-kind.ensures ∙ ap kind_of (to_z-of_z w16 _ f)) e.count e.end e.paced e.within
+    let e = c.run_end-count.ensures in
+    run_at c.args.self.now c.args.place c.in-Some.second _ _ c.in-Some.v c.kind_of-kind.result c.in-Some.ensures
+    (c.kind_of-kind.ensures ∙ ap kind_of (to_z-of_z w16 _ f)) e.count e.end e.paced e.within

@@ -30,29 +30,29 @@ loop-i-preserved c =
     let f : SFits w16 c.in-Some.v = search rules in
     let e : drop c.loop-i.i zs ≡ c.in-Some.v ∷ values_from c.args.self.now c.in-Some.after = sym i.3 ∙ s.2 in
     let n = next_value zs _ c.loop-i.i c.in-Some.v e in
-    let p = c.put-value-at.ensures in (
-      c.put-value-at.array_long,
+    let p = c.put_value-at.ensures in (
+      c.put_value-at.array_long,
       omega arith,
       p.end ∙ omega (arith, i.2),
       sym n.back,
-      run_more r.kind r.count c.loop-i.i c.loop-i.at c.put-value-at.result zs _ c.in-Some.v _ c.loop-i.batch c.put-value-at.new.batch
+      run_more r.kind r.count c.loop-i.i c.loop-i.at c.put_value-at.result zs _ c.in-Some.v _ c.loop-i.batch c.put_value-at.new.batch
           c.loop-i-test.true e c.requires.fit i.4 (p.put ∙ ap (λ z. take c.loop-i.at c.loop-i.batch ++ coded r.kind z) (to_z-of_z w16 _ f)),
     )
 
-pub returns-in-default : goal.returns-in-default
-returns-in-default c =
+pub returns-in_default : goal.returns-in_default
+returns-in_default c =
     let zs = values_from c.args.self.now c.args.run.start in
-    let e : length (drop c.loop-i.i zs) ≡ 0 = ap length (sym c.loop-i.invariant.3 ∙ c.in-default.ensures) in
+    let e : length (drop c.loop-i.i zs) ≡ 0 = ap length (sym c.loop-i.invariant.3 ∙ c.in_default.ensures) in
     absurd (omega (arith, length-drop c.loop-i.i zs, c.requires.enough))
 
-pub returns-then-width-of-eq0 : goal.returns-then-width-of-eq0
-returns-then-width-of-eq0 c =
+pub returns-then-width_of-eq0 : goal.returns-then-width_of-eq0
+returns-then-width_of-eq0 c =
     let bs = c.args.batch.now in
     let r = c.args.run in
     let zs = values_from c.args.self.now c.args.run.start in
     let h : 0 < length bs = search rules in
     let l : length (take r.count zs) ≡ r.count = length-take-le r.count zs c.requires.enough in
-    let e = empty_run r.kind (take r.count zs) r.count c.width-of.result c.width-of.ensures c.if-width-of-eq0.true in
+    let e = empty_run r.kind (take r.count zs) r.count c.width_of.result c.width_of.ensures c.if-width_of-eq0.true in
     record {
       size = e.0;
       bytes =
