@@ -9,21 +9,21 @@ loop-i-init c = (refl, bad_none c.args.bytes.now c.args.long c.args.glyphs c.arg
 
 pub returns-then-at-last : goal.returns-then-at-last
 returns-then-at-last c =
-    let l : offset_in c.args.bytes.now c.args.long c.loop-i.i < before c.args.bytes.now c.args.long c.loop-i.i = omega (arith, c.offset-at-at.ensures, c.loop-i.invariant.0, c.if-at-last.true) in
+    let l : offset_in c.args.bytes.now c.args.long c.loop-i.i < before c.args.bytes.now c.args.long c.loop-i.i = omega (arith, c.offset_at-at.ensures, c.loop-i.invariant.0, c.if-at-last.true) in
     bad_here c.args.bytes.now c.args.long c.args.glyphs c.args.data_at c.requires c.loop-i.i c.loop-i-test.true (first_true _ _ (lt-ltb _ _ l)) c.loop-i.invariant.1
 
 pub loop-i-preserved : goal.loop-i-preserved
 loop-i-preserved c =
-    let l : before c.args.bytes.now c.args.long c.loop-i.i ≤ offset_in c.args.bytes.now c.args.long c.loop-i.i = omega (arith, c.offset-at-at.ensures, c.loop-i.invariant.0, c.if-at-last.false) in
-    let m : c.args.data_at + offset_in c.args.bytes.now c.args.long c.loop-i.i ≤ length c.args.bytes.now = omega (arith, c.offset-at-at.ensures) in (
-      c.offset-at-at.ensures ∙ before_next c.args.bytes.now c.args.long c.loop-i.i,
+    let l : before c.args.bytes.now c.args.long c.loop-i.i ≤ offset_in c.args.bytes.now c.args.long c.loop-i.i = omega (arith, c.offset_at-at.ensures, c.loop-i.invariant.0, c.if-at-last.false) in
+    let m : c.args.data_at + offset_in c.args.bytes.now c.args.long c.loop-i.i ≤ length c.args.bytes.now = omega (arith, c.offset_at-at.ensures) in (
+      c.offset_at-at.ensures ∙ before_next c.args.bytes.now c.args.long c.loop-i.i,
       bad_next c.args.bytes.now c.args.long c.args.glyphs c.args.data_at c.requires c.loop-i.i c.loop-i-test.true (or_from _ _ (le-ltb _ _ l) (le-ltb _ _ m)) c.loop-i.invariant.1,
     )
 
 pub returns : goal.returns
 returns c = bad_done c.args.bytes.now c.args.long c.args.glyphs c.args.data_at c.loop-i.i c.loop-i-test.false c.loop-i.invariant.1
 
-pub returns-then-bytes-data-at : goal.returns-then-bytes-data-at
-returns-then-bytes-data-at c =
-    let l : length c.args.bytes.now < c.args.data_at + offset_in c.args.bytes.now c.args.long c.loop-i.i = omega (arith, c.offset-at-at.ensures) in
+pub returns-then-bytes-data_at : goal.returns-then-bytes-data_at
+returns-then-bytes-data_at c =
+    let l : length c.args.bytes.now < c.args.data_at + offset_in c.args.bytes.now c.args.long c.loop-i.i = omega (arith, c.offset_at-at.ensures) in
     bad_here c.args.bytes.now c.args.long c.args.glyphs c.args.data_at c.requires c.loop-i.i c.loop-i-test.true (second_true _ _ (lt-ltb _ _ l)) c.loop-i.invariant.1

@@ -9,17 +9,17 @@ pub returns : goal.returns
 returns c =
     let e = c.args.self.now in
     let a = e.table.head.axes in
-    let is : is_regional e.head.index ≡ true = sym c.is_regional.ensures ∙ c.if-not-is-regional.false in
-    let s = c.saturating-sub-start.result in
-    let n = c.saturating-sub-end.result in
-    let es : s ≡ e.head.past - 4 * a = omega (arith, c.saturating-sub-start.ensures) in
-    let en : n ≡ e.head.past - 2 * a = omega (arith, c.saturating-sub-end.ensures) in
+    let is : is_regional e.head.index ≡ true = sym c.is_regional.ensures ∙ c.if-not-is_regional.false in
+    let s = c.saturating_sub-start.result in
+    let n = c.saturating_sub-end.result in
+    let es : s ≡ e.head.past - 4 * a = omega (arith, c.saturating_sub-start.ensures) in
+    let en : n ≡ e.head.past - 2 * a = omega (arith, c.saturating_sub-end.ensures) in
     record {
       stored = sym is;
       bounds = λ x w. (
-        holds_of e.table c.tuple-at.result e.slot.now w.slot_end s x.start w.in-table (starts_inside e.slot.now w.header a e.head w.head is s es) c.tuple-at.ensures
+        holds_of e.table c.tuple_at.result e.slot.now w.slot_end s x.start w.in_table (starts_inside e.slot.now w.header a e.head w.head is s es) c.tuple_at.ensures
             (ap (λ y. y.start) w.is_entry ∙ cond-true _ _ _ is ∙ starts_are e.slot.now w.header a e.head w.head is s es),
-        holds_of e.table c.tuple-at-2.result e.slot.now w.slot_end n x.end w.in-table (ends_inside e.slot.now w.header a e.head w.head is n en) c.tuple-at-2.ensures
+        holds_of e.table c.tuple_at-2.result e.slot.now w.slot_end n x.end w.in_table (ends_inside e.slot.now w.header a e.head w.head is n en) c.tuple_at-2.ensures
             (ap (λ y. y.end) w.is_entry ∙ cond-true _ _ _ is ∙ ends_are e.slot.now w.header a e.head w.head is n en),
       );
     }

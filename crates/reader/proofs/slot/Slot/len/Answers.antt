@@ -7,9 +7,9 @@ pub returns : goal.returns
 returns c =
     let s = c.args.self.now in
     record {
-      bound = c.saturating-sub.ensures;
+      bound = c.saturating_sub.ensures;
       entries = λ es w.
-          c.saturating-sub.ensures
+          c.saturating_sub.ensures
           ∙ sym (heads_count w.glyph s.table.head.axes (s.count - s.i) s.i (drop s.header s.bytes.now) s.header w.headers w.left w.past w.heads_read)
           ∙ sym (entries_count (checked s.table.bytes.now) w.glyph s.p w.set s.i w.headers (drop s.body s.bytes.now) s.body es w.after w.end w.entries_read);
     }

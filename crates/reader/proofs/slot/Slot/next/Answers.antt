@@ -33,15 +33,15 @@ returns-in-Ok c =
           let u = un_one x (read_entries k g s.p w.set (s.i + 1) m.0 (drop q.next s.bytes.now) q.next) es w.after w.end (sym m.2 ∙ w.entries_read) in
           let p = peaks_next g s.table.head.peaks s.i w.headers h m.0 m.3 w.peaks_there in
           let t = moved (take q.end s.bytes.now) c.upto-bytes.result.now s.body s.p w.set (is_private q.head.index) q.parts c.upto-bytes.ensures r in
-          let l = list_read (is_private q.head.index) c.upto-bytes.result.now s.body s.p w.set q.parts s.list c.list-of-list.result t w.set_read
-          (subst (λ (b : Bool). ListOf b c.upto-bytes.result.now s.body s.list c.list-of-list.result) c.is_private.ensures c.list-of-list.ensures) in (
+          let l = list_read (is_private q.head.index) c.upto-bytes.result.now s.body s.p w.set q.parts s.list c.list_of-list.result t w.set_read
+          (subst (λ (b : Bool). ListOf b c.upto-bytes.result.now s.body s.list c.list_of-list.result) c.is_private.ensures c.list_of-list.ensures) in (
             x,
             u.0,
             u.2,
             record {
               sound = w.sound;
               slot_end = w.slot_end;
-              in_table = w.in-table;
+              in_table = w.in_table;
               header = s.header;
               head = y.head;
               peak_there = p.0;
@@ -56,7 +56,7 @@ returns-in-Ok c =
             record {
               sound = w.sound;
               slot_end = w.slot_end;
-              in_table = w.in-table;
+              in_table = w.in_table;
               set = w.set;
               number = w.number;
               set_read = w.set_read;

@@ -10,7 +10,7 @@ returns-in-Err c w =
     let bs = c.args.self.now.bytes.now in
     let g = c.args.glyph in
     let p = c.args.p in
-    let t = sym c.is-no-glyph.ensures ∙ c.if-is-no-glyph.false in
+    let t = sym c.is_no_glyph.ensures ∙ c.if-is_no_glyph.false in
     let at = h.data_at + c.offset.result in
     let place : read_slot (checked bs) g p ≡ read_bytes_of_slot (checked bs) g p (drop at c.upto-bytes.result.now) at =
     located bs g p h w.its_head w.no_fault t c.offset.result c.offset-2.result
@@ -24,7 +24,7 @@ returns-in-Ok c w =
     let bs = c.args.self.now.bytes.now in
     let g = c.args.glyph in
     let p = c.args.p in
-    let t = sym c.is-no-glyph.ensures ∙ c.if-is-no-glyph.false in
+    let t = sym c.is_no_glyph.ensures ∙ c.if-is_no_glyph.false in
     let at = h.data_at + c.offset.result in
     let place : read_slot (checked bs) g p ≡ read_bytes_of_slot (checked bs) g p (drop at c.upto-bytes.result.now) at =
     located bs g p h w.its_head w.no_fault t c.offset.result c.offset-2.result

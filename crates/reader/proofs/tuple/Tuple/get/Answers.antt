@@ -11,5 +11,5 @@ returns c =
     let bs = c.args.self.now.part.now in
     let i = c.args.i in (
       omega (arith, length_words bs),
-      word_value (get_or bs (2 * i) 0) (get_or bs (2 * i + 1) 0) c.from-be-bytes.result c.from-be-bytes.type-inv c.from-be-bytes.ensures ∙ sym (word_here bs i (omega arith)),
+      word_value (get_or bs (2 * i) 0) (get_or bs (2 * i + 1) 0) c.from_be_bytes.result c.from_be_bytes.type_inv c.from_be_bytes.ensures ∙ sym (word_here bs i (omega arith)),
     )

@@ -13,44 +13,44 @@ returns-then-tents-get c =
           (λ e. c.if-tents-get.true (e ∙ sym c.get.ensures.is));
     }
 
-pub returns-then-deltas-gt-MAX-DELTAS : goal.returns-then-deltas-gt-MAX-DELTAS
-returns-then-deltas-gt-MAX-DELTAS c =
+pub returns-then-deltas-gt-MAX_DELTAS : goal.returns-then-deltas-gt-MAX_DELTAS
+returns-then-deltas-gt-MAX_DELTAS c =
     let s = c.args.self.now in
     let any : 0 < s.begun = omega arith in
     record {
       room = tt;
       answers = many_deltas (stores s) (sound_of s) any c.args.tents.now c.args.deltas.now c.last-last.result c.last-last.ensures.is
-          (c.if-tents-get.false ∙ c.get.ensures.is) c.if-deltas-gt-MAX-DELTAS.true;
+          (c.if-tents-get.false ∙ c.get.ensures.is) c.if-deltas-gt-MAX_DELTAS.true;
     }
 
-pub returns-then-unlike-first : goal.returns-then-unlike-first
-returns-then-unlike-first c =
+pub returns-then-unlike_first : goal.returns-then-unlike_first
+returns-then-unlike_first c =
     let s = c.args.self.now in
     let any : 0 < s.begun = omega arith in
     record {
       room = tt;
       answers = unlike (stores s) (sound_of s) any c.args.tents.now c.args.deltas.now c.last-last.result c.last-last.ensures.is
-          (c.if-tents-get.false ∙ c.get.ensures.is) (omega arith) c.if-unlike-first.ensures;
+          (c.if-tents-get.false ∙ c.get.ensures.is) (omega arith) c.if-unlike_first.ensures;
     }
 
-pub returns-then-last-ge-MAX-VARIATIONS : goal.returns-then-last-ge-MAX-VARIATIONS
-returns-then-last-ge-MAX-VARIATIONS c =
+pub returns-then-last-ge-MAX_VARIATIONS : goal.returns-then-last-ge-MAX_VARIATIONS
+returns-then-last-ge-MAX_VARIATIONS c =
     let s = c.args.self.now in
     let any : 0 < s.begun = omega arith in
     record {
       room = tt;
       answers = many_variations (stores s) (sound_of s) any c.args.tents.now c.args.deltas.now c.last-last.result c.last-last.ensures.is
-          (c.if-tents-get.false ∙ c.get.ensures.is) (omega arith) c.if-unlike-first.ensures c.if-last-ge-MAX-VARIATIONS.true;
+          (c.if-tents-get.false ∙ c.get.ensures.is) (omega arith) c.if-unlike_first.ensures c.if-last-ge-MAX_VARIATIONS.true;
     }
 
-pub returns-then-no-room : goal.returns-then-no-room
-returns-then-no-room c =
+pub returns-then-no_room : goal.returns-then-no_room
+returns-then-no_room c =
     let s = c.args.self.now in
     let any : 0 < s.begun = omega arith in
     record {
       room = tt;
       answers = no_room (stores s) (sound_of s) any c.args.tents.now c.args.deltas.now c.last-last.result c.last-last.ensures.is
-          (c.if-tents-get.false ∙ c.get.ensures.is) (omega arith) c.if-unlike-first.ensures (omega arith) c.if-no-room.ensures;
+          (c.if-tents-get.false ∙ c.get.ensures.is) (omega arith) c.if-unlike_first.ensures (omega arith) c.if-no_room.ensures;
     }
 
 pub returns : goal.returns
@@ -59,7 +59,7 @@ returns c =
     let any : 0 < s.begun = omega arith in
     record {
       room = admitted (stores s) (sound_of s) any c.args.tents.now c.args.deltas.now c.last-last.result c.last-last.ensures.is
-          (c.if-tents-get.false ∙ c.get.ensures.is) (omega arith) (omega arith) c.if-no-room.ensures;
+          (c.if-tents-get.false ∙ c.get.ensures.is) (omega arith) (omega arith) c.if-no_room.ensures;
       answers = passes (stores s) (sound_of s) any c.args.tents.now c.args.deltas.now c.last-last.result c.last-last.ensures.is
-          (c.if-tents-get.false ∙ c.get.ensures.is) (omega arith) c.if-unlike-first.ensures (omega arith) c.if-no-room.ensures;
+          (c.if-tents-get.false ∙ c.get.ensures.is) (omega arith) c.if-unlike_first.ensures (omega arith) c.if-no_room.ensures;
     }

@@ -8,7 +8,7 @@ use Rattle.sets.proofs.set.Set.axis_values.Goals as goal
 pub returns : goal.returns
 returns c =
     let s = c.args.self.now in
-    let n : c.used-values-n.result - 0 ≡ 3 * s.axes.count * s.added = omega (arith, c.used-values-n.ensures) in
+    let n : c.used_values-n.result - 0 ≡ 3 * s.axes.count * s.added = omega (arith, c.used_values-n.ensures) in
     let e = ap (λ (k : ℕ). take k s.values.now) n in
     record {
       long = ap length e ∙ used_long (stores s) (sound_of s);

@@ -5,8 +5,8 @@ use Rattle.sets.specs.OfSet.{stores, sound_of}
 use Rattle.sets.proofs.Shown.{deltas_fit, deltas_shown}
 use Rattle.sets.proofs.set.Set.deltas_at.Goals as goal
 
-pub deltas-from-requires : goal.deltas-from-requires
-deltas-from-requires c = deltas_fit (stores c.args.self.now) (sound_of c.args.self.now) c.args.i c.requires
+pub deltas_from-requires : goal.deltas_from-requires
+deltas_from-requires c = deltas_fit (stores c.args.self.now) (sound_of c.args.self.now) c.args.i c.requires
 
 pub returns : goal.returns
 returns c =

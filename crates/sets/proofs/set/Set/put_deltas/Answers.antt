@@ -15,13 +15,13 @@ use Rattle.sets.proofs.set.Set.put_deltas.Goals as goal
 abbrev nothing : GlyphDelta
 nothing = record { x = pos 0; y = pos 0; required = false }
 
-pub invariant-of-self : goal.invariant-of-self
-invariant-of-self c =
+pub invariant_of-self : goal.invariant_of-self
+invariant_of-self c =
     let s = c.loop-i.self in
     let at = c.args.self.now.moved in
     let e : s.moved ≡ at = ap (λ (t : Stores). t.moved) c.loop-i.invariant.0 in
     let h = delta_sound (stores s) (at + c.loop-i.i) c.copied.result (sound_of s) (omega arith) in
-    (h.within, (h.counted, (h.placed, (h.chained, (h.numbered, (h.few, (h.chosen, (h.short, tt))))))))
+    record { within = h.within; counted = h.counted; placed = h.placed; chained = h.chained; numbered = h.numbered; few = h.few; chosen = h.chosen; short = h.short }
 
 pub loop-i-init : goal.loop-i-init
 loop-i-init c = (ap (with_deltas (stores c.args.self.now)) (paste_none c.args.self.now.deltas.now c.args.self.now.moved c.args.deltas.now), tt)

@@ -12,13 +12,13 @@ use Rattle.sets.specs.Writing.{with_values}
 use Rattle.sets.proofs.Behind.{value_sound}
 use Rattle.sets.proofs.set.Set.put_values.Goals as goal
 
-pub invariant-of-self : goal.invariant-of-self
-invariant-of-self c =
+pub invariant_of-self : goal.invariant_of-self
+invariant_of-self c =
     let s = c.loop-i.self in
     let e : 3 * s.axes.count * s.added ≡ 3 * c.args.self.now.axes.count * c.args.self.now.added = ap (λ (t : Stores). 3 * t.axes * t.added) c.loop-i.invariant.0 in
     let l : 3 * s.axes.count * s.added ≤ c.args.at + c.loop-i.i = omega (arith, c.requires.behind) in
     let h = value_sound (stores s) (c.args.at + c.loop-i.i) (to_z w16 (of_z w16 c.part.result)) (sound_of s) l in
-    (h.within, (h.counted, (h.placed, (h.chained, (h.numbered, (h.few, (h.chosen, (h.short, tt))))))))
+    record { within = h.within; counted = h.counted; placed = h.placed; chained = h.chained; numbered = h.numbered; few = h.few; chosen = h.chosen; short = h.short }
 
 pub loop-i-init : goal.loop-i-init
 loop-i-init c = (ap (with_values (stores c.args.self.now)) (paste_none c.args.self.now.values.now c.args.at (map (part_of c.args.which) c.args.tents.now)), tt)
@@ -33,7 +33,7 @@ loop-i-preserved c =
       ap (λ (t : Stores). with_values t (set t.values (c.args.at + i) (to_z w16 (of_z w16 c.part.result)))) c.loop-i.invariant.0
           ∙ ap (λ z. with_values (stores c.args.self.now) (set (paste c.args.self.now.values.now c.args.at xs i) (c.args.at + i) z)) (back ∙ v)
           ∙ ap (with_values (stores c.args.self.now)) (paste_more c.args.self.now.values.now c.args.at xs i (pos 0) (omega arith) (omega arith)),
-      All-more Short xs i (pos 0) (omega arith) c.loop-i.invariant.1 (subst Short v c.part.type-inv),
+      All-more Short xs i (pos 0) (omega arith) c.loop-i.invariant.1 (subst Short v c.part.type_inv),
     )
 
 pub returns : goal.returns

@@ -14,7 +14,7 @@ returns c =
     let at = c.place-at.result in
     let is = c.place-at.ensures.is in
     let v : Variation = get_or (all_variations (glyphs_of s)) i no_variation in
-    let a : c.axis-count-a.result ≡ s.axes.count = c.axis-count-a.ensures.is in
+    let a : c.axis_count-a.result ≡ s.axes.count = c.axis_count-a.ensures.is in
     let p : c.row-peak.result.now ≡ peak v = c.row-peak.ensures ∙ peak_shown (stores s) (sound_of s) i at c.requires is in
     let b : c.row-starts.result.now ≡ map (λ t. t.start) v.tents =
     c.row-starts.ensures ∙ ap (λ (x : ℕ). take s.axes.count (drop (at + x) s.values.now)) a ∙ starts_shown (stores s) (sound_of s) i at c.requires is in

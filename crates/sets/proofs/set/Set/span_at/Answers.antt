@@ -4,8 +4,8 @@ use Rattle.sets.proofs.Full.{glyphs_long}
 use Rattle.sets.proofs.Lying.{lies}
 use Rattle.sets.proofs.set.Set.span_at.Goals as goal
 
-pub offset-bounds-self-at : goal.offset-bounds-self-at
-offset-bounds-self-at c =
+pub offset_bounds-self-at : goal.offset_bounds-self-at
+offset_bounds-self-at c =
     let s = c.args.self.now in
     let l = glyphs_long (stores s) (sound_of s) in
     let h : c.args.at < length s.glyphs.now = omega (arith, c.glyph_count.ensures.is, s.within.0) in
@@ -17,8 +17,8 @@ bounds-self-at c =
     let l = glyphs_long (stores s) (sound_of s) in
     omega (arith, c.glyph_count.ensures.is, s.within.0)
 
-pub offset-bounds-self-at-2 : goal.offset-bounds-self-at-2
-offset-bounds-self-at-2 c =
+pub offset_bounds-self-at-2 : goal.offset_bounds-self-at-2
+offset_bounds-self-at-2 c =
     let s = c.args.self.now in
     let l = glyphs_long (stores s) (sound_of s) in
     let h : c.args.at < length s.glyphs.now = omega (arith, c.glyph_count.ensures.is, s.within.0) in
