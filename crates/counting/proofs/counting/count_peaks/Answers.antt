@@ -1,4 +1,4 @@
-use Rattle.std.proofs.Common.{◌≡◌, ℕ, ◌*◌, ◌≤◌, List, length, ℤ, sym, ap, ◌∙◌, subst, arith, Bor, rules}
+use Rattle.std.proofs.Common.{◌≡◌, ℕ, ◌*◌, ◌≤◌, List, length, ℤ, sym, ap, ◌∙◌, subst, arith, Bor, MutBor, rules}
 use Rattle.std.proofs.lemmas.Bool.{le-leb}
 use Rattle.format.specs.Glyphs.{peaks_seen, same_peak}
 use Rattle.format.specs.Ranked.{count}
@@ -17,24 +17,24 @@ returns c =
     let gs = glyphs_of c.args.set.now in
     let axes = (account_of c.args.set.now).axes in
     let ps = peaks_seen gs in
-    let n = c.variation-count-n.result in
-    let xs = c.axis-values.result.now in
+    let n = c.variation_count-n.result in
+    let xs = c.axis_values.result.now in
     let p = c.over-peaks.result in
     let rs = rows p.axes p.values.now p.count in
     let start = c.over-table.result.cells.now in
     let filling = c.fill.new.self.cells.now in
     let end = c.rank.new.self.cells.now in
-    let same : start ≡ c.args.cells.now = ap (λ (r : Bor (List CountCell)). r.now) c.over-table.ensures in
-    let number : n ≡ length ps = c.variation-count-n.ensures.all ∙ sym (seen_long gs) in
-    let values : length xs ≡ 3 * c.axis-count.result * n =
-    c.axis-values.ensures.long ∙ ap (λ (x : ℕ). 3 * x * variation_count gs) (sym c.axis-count.ensures.is) ∙ ap (λ (x : ℕ). 3 * c.axis-count.result * x) (sym c.variation-count-n.ensures.is) in
-    let k : p.count ≡ n = enough c.axis-count.result n (length xs) p.count values c.over-peaks.ensures.count in
+    let same : start ≡ c.args.cells.now = ap (λ (r : MutBor (List CountCell)). r.now) c.over-table.ensures in
+    let number : n ≡ length ps = c.variation_count-n.ensures.all ∙ sym (seen_long gs) in
+    let values : length xs ≡ 3 * c.axis_count.result * n =
+    c.axis_values.ensures.long ∙ ap (λ (x : ℕ). 3 * x * variation_count gs) (sym c.axis_count.ensures.is) ∙ ap (λ (x : ℕ). 3 * c.axis_count.result * x) (sym c.variation_count-n.ensures.is) in
+    let k : p.count ≡ n = enough c.axis_count.result n (length xs) p.count values c.over-peaks.ensures.count in
     let e : rs ≡ ps =
-    ap (λ (x : ℕ). rows x p.values.now p.count) (c.over-peaks.ensures.axes ∙ c.axis-count.ensures.is)
+    ap (λ (x : ℕ). rows x p.values.now p.count) (c.over-peaks.ensures.axes ∙ c.axis_count.ensures.is)
     ∙ ap (λ (x : Bor (List ℤ)). rows axes x.now p.count) c.over-peaks.ensures.values
-    ∙ ap (λ (x : ℕ). rows axes xs x) (k ∙ c.variation-count-n.ensures.is)
-    ∙ c.axis-values.ensures.rows in
-    let long : p.count ≤ length start = subst (λ (x : List CountCell). p.count ≤ length x) (sym same) (let v = c.variation-count-n.ensures.all in omega (arith, v, k, c.requires)) in
+    ∙ ap (λ (x : ℕ). rows axes xs x) (k ∙ c.variation_count-n.ensures.is)
+    ∙ c.axis_values.ensures.rows in
+    let long : p.count ≤ length start = subst (λ (x : List CountCell). p.count ≤ length x) (sym same) (let v = c.variation_count-n.ensures.all in omega (arith, v, k, c.requires)) in
     let filled : Filled (same_peak rs) p.count filling = c.fill.ensures.filled (c.fill.ensures.refuses ∙ le-leb p.count (length start) long) in
     let standing : Standing (same_peak rs) (λ i. count p.count (same_peak rs) i) p.count end = c.rank.ensures.ranked filled in
     record {

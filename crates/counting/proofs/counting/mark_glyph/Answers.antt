@@ -7,6 +7,6 @@ returns-in-Some c =
     let s = c.args.set.now in
     let lies = c.in-Some.ensures in
     record {
-      done = marked_more (glyphs_of s) c.args.at c.in-Some.span lies c.args.cells.now c.mark-span.new.cells c.mark-span.ensures.marks c.mark-span.ensures.before c.requires.done;
-      rest = c.mark-span.ensures.rest;
+      done = marked_more (glyphs_of s) c.args.at c.in-Some.span lies c.args.cells.now c.mark_span.new.cells c.mark_span.ensures.marks c.mark_span.ensures.before c.requires.done;
+      rest = c.mark_span.ensures.rest;
     }

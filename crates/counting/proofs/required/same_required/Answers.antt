@@ -6,11 +6,11 @@ use Rattle.counting.specs.PointSets.{no_delta}
 use Rattle.counting.proofs.Flags.{same_yes, same_not, agree_yes, agree_no}
 use Rattle.counting.proofs.required.same_required.Goals as goal
 
-pub returns-then-not-agree-at : goal.returns-then-not-agree-at
-returns-then-not-agree-at c = same_not c.args.a.now c.args.b.now c.loop-i.i (agree_no _ _ _ c.if-not-agree-at.true c.agree-at.ensures)
+pub returns-then-not-agree_at : goal.returns-then-not-agree_at
+returns-then-not-agree_at c = same_not c.args.a.now c.args.b.now c.loop-i.i (agree_no _ _ _ c.if-not-agree_at.true c.agree_at.ensures)
 
 pub loop-i-preserved : goal.loop-i-preserved
-loop-i-preserved c = below_more _ _ c.loop-i.invariant (agree_yes _ _ _ c.if-not-agree-at.false c.agree-at.ensures)
+loop-i-preserved c = below_more _ _ c.loop-i.invariant (agree_yes _ _ _ c.if-not-agree_at.false c.agree_at.ensures)
 
 pub returns : goal.returns
 returns c =

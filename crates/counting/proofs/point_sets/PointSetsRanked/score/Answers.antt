@@ -2,11 +2,11 @@ use Rattle.std.proofs.Common.{ℕ, ◌-◌, ◌*◌, ◌≤◌, ap, mul-le-mul, 
 use Rattle.counting.proofs.Views.{size_shown, size_most}
 use Rattle.counting.proofs.point_sets.PointSetsRanked.score.Goals as goal
 
-pub overflow-add-self : goal.overflow-add-self
-overflow-add-self c = let f = c.args.self.now.few.1 in let l = c.requires.inside in omega arith
+pub overflow_add-self : goal.overflow_add-self
+overflow_add-self c = let f = c.args.self.now.few.1 in let l = c.requires.inside in omega arith
 
-pub overflow-mul-result : goal.overflow-mul-result
-overflow-mul-result c =
+pub overflow_mul-result : goal.overflow_mul-result
+overflow_mul-result c =
     let s = c.args.self.now in
     let p = c.in-Some.v.stored.points in
     let m : p ≤ 98303 = size_most s.set.now s.first s.count c.args.first c.requires.inside s.within _ c.in-Some.v c.in-Some.ensures.1 in

@@ -7,4 +7,4 @@ use Rattle.parts.proofs.store.GlyphStore.data.Goals as goal
 pub returns : goal.returns
 returns c =
     let s = c.args.self.now in
-    data_told _ c.variation-v.result (store_variations s) c.args.j (omega (arith, store_long s)) c.variation-v.ensures c.is-shared.result c.is-shared.ensures
+    data_told _ c.variation-v.result (store_variations s) c.args.j (omega (arith, store_long s)) c.variation-v.ensures c.is_shared.result c.is_shared.ensures

@@ -7,5 +7,5 @@ use Rattle.parts.proofs.store.GlyphStore.header.Goals as goal
 pub returns : goal.returns
 returns c =
     let s = c.args.self.now in
-    header_told _ c.variation-v.result (store_variations s) c.args.j (omega (arith, store_long s)) c.variation-v.ensures c.is-shared.result c.is-shared.ensures
-    (store_peaks s) c.data-length.result c.index.result c.stores-region.result c.data-length.ensures.size c.index.ensures c.stores-region.ensures
+    header_told _ c.variation-v.result (store_variations s) c.args.j (omega (arith, store_long s)) c.variation-v.ensures c.is_shared.result c.is_shared.ensures
+    (store_peaks s) c.data_length.result c.index.result c.stores_region.result c.data_length.ensures.size c.index.ensures c.stores_region.ensures

@@ -8,6 +8,6 @@ use Rattle.parts.proofs.store.GlyphStore.is_shared.Goals as goal
 pub returns : goal.returns
 returns c =
     let s = c.args.self.now in
-    c.is-marked.ensures
+    c.is_marked.ensures
     ∙ ap (λ (x : CountCell). x.marked) (get_or_default s.cells.now (s.span.first + c.args.j) _ blank (omega (arith, s.within.1, s.within.2)))
     ∙ store_mark s c.args.j c.requires

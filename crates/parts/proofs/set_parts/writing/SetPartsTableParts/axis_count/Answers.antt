@@ -3,4 +3,4 @@ use Rattle.parts.proofs.set_parts.writing.SetPartsTableParts.axis_count.Goals as
 
 pub returns : goal.returns
 unfolding parts_axes
-returns c = c.axis-count.ensures.is
+returns c = c.axis_count.ensures.is

@@ -14,20 +14,20 @@ loop-r-init g c =
     let gs = parts_glyphs c.args.self.now in
     subst (λ (bs : List ℕ). Part g.S.Sink.step (peaks_data gs) bs (g.S.Sink.stands c.args.sink.now) (g.S.Sink.stands c.args.sink.now)) (left_first gs) part_none
 
-pub returns-in-err-feed : goal.returns-in-err-feed
-returns-in-err-feed g c =
-    let q = err_from_is_err_and c.from-residual.result c.from-residual.ensures.1 in
+pub returns-in_err-feed : goal.returns-in_err-feed
+returns-in_err-feed g c =
+    let q = err_from_is_err_and c.from_residual.result c.from_residual.ensures.1 in
     let p = c.args.self.now in
     let ws = c.shared_peak.result.values.now in
     let r = c.loop-r.r in
-    rw (q.1, q.2) (part_stop (signed_words ws) (peaks_left (parts_glyphs p) (r + 1)) (peak_more p r c.loop-r-test.true ws c.shared_peak.ensures) c.loop-r.invariant _ c.in-err-feed.ensures)
+    rw (q.1, q.2) (part_stop (signed_words ws) (peaks_left (parts_glyphs p) (r + 1)) (peak_more p r c.loop-r-test.true ws c.shared_peak.ensures) c.loop-r.invariant _ c.in_err-feed.ensures)
 
 pub loop-r-preserved : goal.loop-r-preserved
 loop-r-preserved g c =
     let p = c.args.self.now in
     let ws = c.shared_peak.result.values.now in
     let r = c.loop-r.r in
-    part_more (signed_words ws) (peaks_left (parts_glyphs p) (r + 1)) (peak_more p r c.loop-r-test.true ws c.shared_peak.ensures) c.loop-r.invariant c.in-ok-feed.ensures.outcome
+    part_more (signed_words ws) (peaks_left (parts_glyphs p) (r + 1)) (peak_more p r c.loop-r-test.true ws c.shared_peak.ensures) c.loop-r.invariant c.in_ok-feed.ensures.outcome
 
 pub returns : goal.returns
 returns g c = part_done (peak_last c.args.self.now c.loop-r.r c.loop-r-test.false) c.loop-r.invariant

@@ -13,7 +13,7 @@ returns-in-Some g c =
     let v = c.variation-v.result in
     let h = c.variation-v.ensures in
     fed_as
-    (ap packed_points c.point-numbers.ensures.points
+    (ap packed_points c.point_numbers.ensures.points
     ∙ points_told _ v _ h
     ∙ shared_told _ v (store_variations s) c.in-Some.j (omega (arith, store_long s, c.in-Some.ensures.0)) h c.in-Some.ensures.1)
     c.feed.ensures
