@@ -1,4 +1,5 @@
 // What is asked for: a table, and one of its glyphs or all.
+use anyhow::anyhow;
 use std::io::Read;
 use std::{env, fs};
 
@@ -54,10 +55,10 @@ pub fn read_request(rt: &HostRuntime) -> anyhow::Result<Request> {
         });
     };
     let Some(count) = words.next() else {
-        return Err(USAGE.into());
+        return Err(anyhow!("{USAGE}"));
     };
     if words.next().is_some() {
-        return Err(USAGE.into());
+        return Err(anyhow!("{USAGE}"));
     }
     let glyphs = if which.as_str() == "all" {
         Glyphs::All(fs::read_to_string(rt, count.as_str())?)

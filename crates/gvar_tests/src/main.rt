@@ -3,7 +3,7 @@
 mod answer;
 mod calls;
 mod compiling;
-mod stores;
+mod lent;
 mod words;
 
 use answer::show_refusal;
@@ -15,7 +15,7 @@ use sets::axis::AxisCount;
 use sets::set::Set;
 use std::io::{BufRead, BufReader, BufWriter, Stdout, Write};
 use std::str::SplitWhitespace;
-use stores::{make_stores, used_cells};
+use lent::{make_stores, used_cells};
 use words::{number, word_number};
 
 // The call that the next word names; is there one?

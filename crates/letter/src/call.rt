@@ -1,5 +1,5 @@
 // A call, as a line of a script gives it.
-use crate::stores::Stores;
+use crate::lent::Stores;
 use sets::tent::{Bounds, Tent};
 use std::alloc::{AllocError, Global};
 use variations::delta::GlyphDelta;

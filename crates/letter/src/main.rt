@@ -6,7 +6,7 @@ mod parity;
 mod reading;
 mod run;
 mod show;
-mod stores;
+mod lent;
 
 use run::run_script;
 use std::io::{BufWriter, Read, Write};

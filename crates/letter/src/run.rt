@@ -3,7 +3,7 @@ use crate::call::{Call, call_of, form_wanted};
 use crate::compiling::{Kept, run_compile};
 use crate::reading::run_read;
 use crate::show::{show_answer, show_refused};
-use crate::stores::{Memory, Stores};
+use crate::lent::{Memory, Stores};
 use counts::cells::CountCell;
 use sets::axis::AxisCount;
 use sets::set::Set;
