@@ -1,4 +1,6 @@
 // One count table for every kind of item: where each is first seen, how often it occurs, and how its class ranks.
+#![tactic(auto)]
+
 pub mod cells;
 pub mod filling;
 pub mod heap;

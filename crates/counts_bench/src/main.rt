@@ -1,4 +1,6 @@
 // Times the count table on the peaks of two axes: filling it, ranking its classes, and reading all ranks.
+#![tactic(auto)]
+
 use counts::cells::CountCell;
 use counts::peaks::Peaks;
 use counts::table::CountTable;

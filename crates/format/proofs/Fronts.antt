@@ -1,5 +1,5 @@
 -- Items are read off the front: which bytes they use, how many items there are, and when there are enough bytes.
-use Rattle.std.proofs.Common.{◌≡◌, ℕ, zero, suc, ◌+◌, ◌*◌, Bool, true, false, cond, List, [], ◌∷◌, ◌++◌, length, pos, refl, ap, arith}
+use Rattle.std.proofs.Common.{◌≡◌, ℕ, zero, suc, ◌*◌, Bool, true, false, cond, List, [], ◌∷◌, ◌++◌, length, pos, refl, ap, arith}
 use mathlib.Core.Option.{Option, none, some}
 use lib.ListN.{length-replicate}
 use Rattle.format.specs.Bytes.{pair, signed8, signed16}

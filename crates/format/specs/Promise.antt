@@ -1,13 +1,13 @@
 -- The main promise: between the account of the calls and the account of the compiled bytes, every required movement agrees.
-use Rattle.std.specs.Prelude.{◌≡◌, ℕ, suc, ◌<◌, ◌≤◌, Bool, true, false, T, List, [], ◌∷◌, ◌++◌, map, length, ℤ}
-use Rattle.std.proofs.Math.Option.{Option, none, some}
+use Rattle.std.specs.Prelude.{◌≡◌, ℕ, ◌≤◌, true, T, List, [], ◌∷◌, ◌++◌, map, length, ℤ}
+use Rattle.std.proofs.Math.Option.{some}
 use Rattle.std.specs.List.{AllByRecursion as All}
-use Rattle.format.specs.Account.{Tent, Delta, Variation, Glyph, Cells, Account, Meaning, Call, compile, opened, after, accepted_calls, laid, ShortCall, Declined, most_axes}
+use Rattle.format.specs.Account.{Delta, Variation, Glyph, Cells, Account, Meaning, Call, compile, opened, after, accepted_calls, laid, ShortCall, Declined, most_axes}
 use Rattle.format.specs.Table.{Answer, granted, refused, table_bytes, compile_answer, sink_after, taken}
-use Rattle.format.specs.Streams.{Read, rises}
+use Rattle.format.specs.Streams.{rises}
 use Rattle.format.specs.Streams.{found}
 use Rattle.format.specs.Reader.{Entry, Move, read_glyph}
-use Rattle.format.specs.Movement.{Fraction, Same, delta_at, move_at, moved_by_calls, moved_by_bytes}
+use Rattle.format.specs.Movement.{Same, delta_at, move_at, moved_by_calls, moved_by_bytes}
 
 -- p stands for the number of deltas of a glyph: that of its variations, or any that a reader takes where it has none
 abbrev pub DeltasNumber : List Variation → ℕ → Type 0

@@ -1,4 +1,6 @@
 // The meaning of the format: definitions of what a set, a table and a reading are, and the laws between them.
+#![tactic(auto)]
+
 pub mod answers;
 pub mod examples;
 pub mod found;

@@ -1,18 +1,18 @@
 -- From what the passes of compile find to what compile promises.
-use Rattle.std.proofs.Common.{◌≡◌, ℕ, ◌+◌, ◌-◌, ◌<◌, ◌≤◌, Bool, true, false, ◌⊎◌, List, [], ◌∷◌, ◌++◌, map, length, replicate, ℤ, Ok, Err, fold, Result, sym, refl, ap, ◌∙◌, subst, inl, inr, arith, length-append}
+use Rattle.std.proofs.Common.{◌≡◌, ℕ, ◌+◌, ◌-◌, ◌<◌, ◌≤◌, true, false, ◌⊎◌, List, [], ◌∷◌, map, length, replicate, ℤ, Ok, Err, fold, Result, sym, refl, ap, ◌∙◌, subst, inl, inr, length-append}
 use mathlib.Core.Option.{Option, none, some}
 use lib.ListN.{length-map}
 use Rattle.std.proofs.lemmas.Bool.{lt-ltb, le-ltb}
 use Rattle.format.specs.Account.{Account, Glyph, Variation, Declined, most_axes, ShortSet, first_of}
 use Rattle.format.specs.Glyphs.{peak, peaks_seen}
-use Rattle.format.specs.Table.{granted, refused, variations_of, numbers_full, variation_count, table_bytes, compile_answer, size_conditions}
-use Rattle.format.specs.Answers.{by_set, Countable, SizesFit, NotCompiled, missing_numbers, few_count_cells, long_data, long_headers, long_glyphs, long_table}
+use Rattle.format.specs.Table.{granted, refused, variations_of, numbers_full, variation_count, table_bytes, size_conditions}
+use Rattle.format.specs.Answers.{Countable, SizesFit, NotCompiled, long_data, long_headers}
 use Rattle.format.specs.Promise.{Compiled}
 use Rattle.format.proofs.Conditions.{none_applies}
 use Rattle.format.proofs.SizeAnswers.{sizes_fit, size_reason, LongData, LongHeaders}
 use Rattle.format.proofs.CompileAnswers.{numbers_of_a_call, granted_met_none}
 use Rattle.format.proofs.Promised.{compiled}
-use Rattle.write.specs.Sinks.{Standing, Step, Handed}
+use Rattle.write.specs.Sinks.{Standing, Step}
 use Rattle.sets.specs.declared.refusal.Refusal.{Refusal}
 use Rattle.stores.specs.declared.size.StoreFault.{StoreFault}
 use Rattle.stores.specs.Sizes.{store_declined, StoreSized}

@@ -9,7 +9,7 @@ use Rattle.gvar.specs.declared.requests.Request.{Request}
 use Rattle.gvar.specs.declared.requests.Request.TheVariants.{Glyph, Variation, Compile}
 use Rattle.gvar.specs.declared.requests.Reply.{Reply}
 use Rattle.gvar.specs.Compiling.{meaning_of}
-use Rattle.gvar.specs.Runs.{Event, note, noted, table_answer, call_of, calls_of, Made, Run, RunNoted, EveryCompileKept, Replayed}
+use Rattle.gvar.specs.Runs.{Event, note, noted, call_of, calls_of, Made, Run, RunNoted, EveryCompileKept, Replayed}
 
 -- Requests and replies
 

@@ -1,6 +1,6 @@
 -- What compile answers, hands over, and leaves in the count cells.
-use Rattle.std.specs.Prelude.{◌≡◌, ℕ, ◌<◌, ◌≤◌, Bool, cond, not, ◌||◌, List, length, replicate, Ok, Err, Result, nat_lt}
-use Rattle.format.specs.Account.{Account, Glyph, Meaning}
+use Rattle.std.specs.Prelude.{◌≡◌, ℕ, ◌<◌, ◌≤◌, cond, not, ◌||◌, List, length, replicate, Ok, Err, Result, nat_lt}
+use Rattle.format.specs.Account.{Glyph, Meaning}
 use Rattle.format.specs.Table.{Answer, granted, refused, numbers_full, variation_count, even_total, glyphs_bytes, table_bytes}
 use Rattle.format.specs.Answers.{Countable, SizesFit, NotCompiled}
 use Rattle.write.specs.Sinks.{Standing, Step, Handed}

@@ -1,5 +1,7 @@
 // Times how sets are filled and compiled to a buffer, at two sizes each. The sizes are small ones; with the argument
 // `full`, those of a large font. The times go to standard error.
+#![tactic(auto)]
+
 use anyhow::anyhow;
 use counts::cells::CountCell;
 use gvar::compile::compile;

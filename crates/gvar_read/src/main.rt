@@ -1,4 +1,6 @@
 // Prints what a table says of one glyph, or of all.
+#![tactic(auto)]
+
 mod request;
 mod show;
 

@@ -1,5 +1,7 @@
 // Reads cases from standard input, each of them the stores of a set and a list of calls, and prints the answer to each
 // call. What it prints is compared with lines that were worked out from the rules.
+#![tactic(auto)]
+
 mod answer;
 mod calls;
 mod compiling;
@@ -11,11 +13,11 @@ use anyhow::anyhow;
 use calls::{add_variations, begin_glyphs};
 use compiling::{compile_buffer, compile_checksum, compile_counter};
 use counts::cells::CountCell;
+use lent::{make_stores, used_cells};
 use sets::axis::AxisCount;
 use sets::set::Set;
 use std::io::{BufRead, BufReader, BufWriter, Stdout, Write};
 use std::str::SplitWhitespace;
-use lent::{make_stores, used_cells};
 use words::{number, word_number};
 
 // The call that the next word names; is there one?

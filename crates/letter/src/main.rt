@@ -1,12 +1,14 @@
 // Runs a script of calls: adds glyphs and variations to a set, compiles its table, reads it back, and prints each answer.
+#![tactic(auto)]
+
 mod call;
 mod compare;
 mod compiling;
+mod lent;
 mod parity;
 mod reading;
 mod run;
 mod show;
-mod lent;
 
 use run::run_script;
 use std::io::{BufWriter, Read, Write};

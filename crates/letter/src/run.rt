@@ -1,9 +1,9 @@
 // Runs the calls of a script, line by line.
 use crate::call::{Call, call_of, form_wanted};
 use crate::compiling::{Kept, run_compile};
+use crate::lent::{Memory, Stores};
 use crate::reading::run_read;
 use crate::show::{show_answer, show_refused};
-use crate::lent::{Memory, Stores};
 use counts::cells::CountCell;
 use sets::axis::AxisCount;
 use sets::set::Set;

@@ -5,7 +5,7 @@ use Rattle.std.proofs.lemmas.Bool.{cases_lt, lt-ltb, le-ltb, ltb-true, and_parts
 use Rattle.std.proofs.lemmas.Bool.Decides.{nat_tests}
 use Rattle.format.specs.Bytes.{same_int, same_list}
 use Rattle.format.specs.Glyphs.{same_peak, peak_score, peak_rank, place_of_peak, shared_index, shared_count}
-use Rattle.format.specs.Ranked.{count_below, first, is_first, before, rank}
+use Rattle.format.specs.Ranked.{count_below, first, is_first, before}
 use Rattle.format.proofs.Counts.{count_more}
 use Rattle.format.proofs.Ranks.{rank_below}
 use Rattle.counts.specs.Ranking.{rank_of}

@@ -2,7 +2,7 @@
 use Rattle.std.proofs.Common.{◌≡◌, ℕ, ◌+◌, ◌<◌, ◌≤◌, List, [], ◌++◌, length, get_or, ℤ, sym, ap, ◌∙◌, arith}
 use Rattle.format.specs.Account.{Glyph}
 use Rattle.format.specs.Bytes.{signed_words}
-use Rattle.format.specs.Glyphs.{peak, peaks_seen, shared_count, shared_peaks}
+use Rattle.format.specs.Glyphs.{peaks_seen, shared_count, shared_peaks}
 use Rattle.counts.specs.Cells.{order_at}
 use Rattle.sets.specs.declared.view.GlyphDeltas.{GlyphDeltas}
 use Rattle.sets.specs.OfSet.{account_of, glyphs_of}

@@ -1,5 +1,5 @@
 -- One value after another of a stream that gives these values and ends.
-use Rattle.std.proofs.Common.{◌≡◌, ℕ, suc, ◌<◌, List, [], ◌∷◌, drop, Some, None, Ok, Err, Option as Maybe, sym, refl, ap, ◌∙◌, arith}
+use Rattle.std.proofs.Common.{◌≡◌, ℕ, List, [], ◌∷◌, drop, Some, None, Ok, Err, Option as Maybe, sym, refl, ap, ◌∙◌, arith}
 use Rattle.format.specs.Account.{Declined}
 use Rattle.format.specs.Streams.{rest, found}
 use Rattle.streams.specs.declared.fault.StreamFault.{StreamFault}

@@ -1,5 +1,5 @@
 -- The moves of an entry, one after another.
-use Rattle.std.proofs.Common.{◌≡◌, ℕ, List, [], ◌∷◌, ℤ, Some, None, Ok, Err, Option as Maybe, sym, refl, ap, ◌∙◌}
+use Rattle.std.proofs.Common.{◌≡◌, ℕ, List, [], ◌∷◌, ℤ, Some, None, Ok, Option as Maybe, refl, ap, ◌∙◌}
 use Rattle.format.specs.Reader.{Move, moves_of}
 use Rattle.streams.specs.declared.deltas.DeltaCursor.{DeltaCursor}
 use Rattle.streams.specs.Ahead.{ends, give_all}

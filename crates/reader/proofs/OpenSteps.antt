@@ -1,5 +1,5 @@
 -- A glyph of a table: the check of the table, then the reading of the slot.
-use Rattle.std.proofs.Common.{◌≡◌, ℕ, List, Ok, Err, Result, sym, refl, ap, ◌∙◌, subst}
+use Rattle.std.proofs.Common.{◌≡◌, ℕ, List, Ok, Err, Result, refl, ◌∙◌, subst}
 use mathlib.Core.Option.{none, some}
 use Rattle.format.specs.Account.{Declined, first_of}
 use Rattle.format.specs.Streams.{Read, found, fault}

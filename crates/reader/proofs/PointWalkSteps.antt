@@ -1,5 +1,5 @@
 -- The points of an entry, one after another.
-use Rattle.std.proofs.Common.{◌≡◌, ℕ, zero, suc, ◌+◌, ◌-◌, ◌<◌, Bool, true, false, List, [], ◌∷◌, drop, Some, None, Ok, Err, Option as Maybe, sym, refl, ap, ◌∙◌, arith}
+use Rattle.std.proofs.Common.{◌≡◌, ℕ, zero, suc, ◌+◌, ◌-◌, ◌<◌, Bool, true, false, List, ◌∷◌, drop, Some, None, Ok, Option as Maybe, sym, refl, ap, ◌∙◌, arith}
 use mathlib.Core.Option.{none}
 use Rattle.format.specs.Account.{Declined, declined}
 use Rattle.format.specs.Packed.{Points, every, only}
@@ -13,7 +13,6 @@ use Rattle.streams.specs.Ahead.{ends, give_all, read_ahead}
 use Rattle.streams.specs.Points.{points_ahead, PointStep, by_count}
 use Rattle.slots.specs.Entries.{own_or_shared}
 use Rattle.slots.proofs.HeadSteps.{not_both}
-use Rattle.reader.specs.declared.points.PointWalk.{PointWalk}
 use Rattle.reader.specs.declared.points.PointWalk.TheVariants.{Listed}
 use Rattle.reader.specs.PointWalks.{PointsLeft, Came}
 use Rattle.reader.proofs.AheadSteps.{gives_all, comes, ends_here}

@@ -1,5 +1,5 @@
 -- The walk over a slot: how many entries are left, and the next of them.
-use Rattle.std.proofs.Common.{◌≡◌, ℕ, zero, suc, ◌+◌, ◌-◌, Bool, true, false, cond, ltb, List, [], ◌∷◌, length, take, drop, sym, refl, ap, ◌∙◌, arith}
+use Rattle.std.proofs.Common.{◌≡◌, ℕ, zero, suc, ◌+◌, Bool, true, false, ltb, List, [], ◌∷◌, length, take, drop, sym, refl, ap, ◌∙◌, arith}
 use mathlib.Core.Option.{Option, none, some}
 use Rattle.std.proofs.lemmas.Bool.{cond-true, cond-false}
 use Rattle.format.specs.Account.{Declined, Condition, first_of}
@@ -8,7 +8,7 @@ use Rattle.format.specs.Streams.{Rest, rest, Read, found, fault, fault_if, and_t
 use Rattle.format.specs.Reader.{Header, Entry, Checked, header_then, read_header, read_headers, read_entry, read_entries, peak_conditions, at_entry}
 use Rattle.slots.specs.declared.entry.Parts.{Parts}
 use Rattle.slots.specs.Heads.{no_peak}
-use Rattle.slots.specs.Entries.{own_or_shared, EntryRead}
+use Rattle.slots.specs.Entries.{EntryRead}
 use Rattle.reader.specs.declared.points.PointList.{PointList}
 use Rattle.reader.specs.PointWalks.{ListRead}
 use Rattle.reader.specs.SlotWalks.{ListOf}

@@ -1,13 +1,12 @@
 -- The offsets of a table, one after another.
-use Rattle.std.proofs.Common.{◌≡◌, ℕ, zero, suc, ◌+◌, ◌-◌, ◌*◌, ◌<◌, ◌≤◌, Bool, true, false, cond, not, ◌||◌, eqb, ltb, leb, List, [], ◌∷◌, ◌++◌, length, get_or, take, drop, Option as Maybe, sym, refl, ap, ◌∙◌, subst, arith, length-drop, get_or-drop}
-use mathlib.Core.Option.{Option, none, some}
-use Rattle.std.proofs.lemmas.Bool.{lt-ltb, le-ltb, ltb-true, ltb-false, cond-true, cond-false, or_from, or_parts, cases_Bool}
-use Rattle.std.proofs.lemmas.List.{drop-take}
-use Rattle.format.specs.Account.{Declined, declined, Condition, iff, first_of}
+use Rattle.std.proofs.Common.{◌≡◌, ℕ, zero, suc, ◌+◌, ◌-◌, ◌*◌, ◌<◌, ◌≤◌, Bool, true, false, cond, ◌||◌, ltb, List, [], ◌∷◌, length, get_or, drop, Option as Maybe, sym, refl, ap, ◌∙◌, subst, arith, length-drop, get_or-drop}
+use mathlib.Core.Option.{none, some}
+use Rattle.std.proofs.lemmas.Bool.{le-ltb, cond-true, cond-false}
+use Rattle.format.specs.Account.{first_of}
 use Rattle.format.specs.Bytes.{pair}
 use Rattle.format.specs.Glyphs.{listed}
-use Rattle.format.specs.Streams.{cons_to, read_words, read_longs}
-use Rattle.format.specs.Reader.{Checked, checked, read_offsets, value_or, word_at, long_at, offset_of, falls, offset_condition, in_table, table_conditions}
+use Rattle.format.specs.Streams.{read_words, read_longs}
+use Rattle.format.specs.Reader.{Checked, checked, value_or, word_at, offset_of, falls, offset_condition, in_table, table_conditions}
 use Rattle.reader.specs.declared.table.Head.{Head}
 use Rattle.reader.specs.Tables.{offset_in, offset_list, head_of, head_conditions, FirstBad, bad_answer}
 use Rattle.slots.proofs.SlotSteps.{first_none}

@@ -1,9 +1,8 @@
 -- The tuples of an entry hold what the definition gives, and stand in the table.
-use Rattle.std.proofs.Common.{◌≡◌, ℕ, suc, ◌+◌, ◌*◌, ◌<◌, ◌≤◌, Bool, false, cond, not, ◌&&◌, leb, List, [], length, take, drop, ℤ, sym, refl, ap, ◌∙◌, subst, mul-le-mul, arith, length-drop, length-take}
-use mathlib.Core.Option.{Option, none, some}
+use Rattle.std.proofs.Common.{◌≡◌, ℕ, suc, ◌+◌, ◌*◌, ◌<◌, ◌≤◌, false, not, ◌&&◌, leb, List, [], length, take, drop, ℤ, sym, ap, ◌∙◌, subst, mul-le-mul, arith, length-drop, length-take}
+use mathlib.Core.Option.{none}
 use Rattle.std.proofs.lemmas.Bool.{leb-false}
 use Rattle.format.specs.Account.{first_of}
-use Rattle.format.specs.Bytes.{signed16}
 use Rattle.format.specs.Reader.{checked, word_at, long_at, value_or, shared_peak, is_embedded, peak_index, table_conditions}
 use Rattle.slots.specs.Heads.{no_peak}
 use Rattle.reader.specs.declared.table.Head.{Head}

@@ -1,6 +1,5 @@
 -- Number, layer, glyph, variation and place of every fault.
 use Rattle.std.proofs.Math.Option.{none, some}
-use Rattle.std.specs.Prelude.{ℕ}
 use Rattle.format.specs.Account.{Declined, declined, table, slot, entry, stream}
 use Rattle.format.specs.Account.{Layer as Layer-of-fault}
 use Rattle.format.specs.Reader.{in_table}

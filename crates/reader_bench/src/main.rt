@@ -1,5 +1,7 @@
 // Makes a table of about a megabyte, and measures how many bytes a second are checked and walked.
 // Proved, the program is target/bin/reader_bench; the speeds go to standard error.
+#![tactic(auto)]
+
 use anyhow::anyhow;
 use reader::slot::Slot;
 use reader::table::Table;

@@ -1,4 +1,6 @@
 // Reads tables, and cases of damage to them, from standard input, and prints the reader's answer to each case.
+#![tactic(auto)]
+
 mod answer;
 mod case;
 

@@ -1,14 +1,12 @@
 -- The parts of an entry, one after another.
-use Rattle.std.proofs.Common.{◌≡◌, ℕ, ◌+◌, ◌<◌, ◌≤◌, Bool, true, false, cond, List, [], ◌∷◌, ◌++◌, length, get_or, drop, ℤ, Ok, Err, sym, refl, ap, ◌∙◌, arith}
+use Rattle.std.proofs.Common.{◌≡◌, ℕ, ◌<◌, ◌≤◌, Bool, true, List, [], length, drop, ℤ, Ok, ap, ◌∙◌}
 use Rattle.std.proofs.lemmas.List.{drop_more, drop_all}
 use Rattle.format.specs.Account.{Declined}
 use Rattle.format.specs.Packed.{Points}
-use Rattle.format.specs.Streams.{Rest, rest, Read, found, fault, and_then, read_points, read_deltas}
+use Rattle.format.specs.Streams.{Rest, rest, Read, found, fault, and_then, read_deltas}
 use Rattle.format.specs.Reader.{Header, Checked, Entry, is_private, read_entry, points_of, entry_of, nothing_left}
-use Rattle.streams.specs.declared.fault.StreamFault.{StreamFault}
 use Rattle.streams.specs.declared.points.PointSet.{PointSet}
 use Rattle.slots.specs.declared.entry.Parts.{Parts}
-use Rattle.streams.specs.Faults.{stream_declined}
 use Rattle.streams.specs.Deltas.{PastDeltas}
 use Rattle.streams.specs.Points.{SetRead}
 use Rattle.slots.specs.Entries.{own_or_shared, PointsRead, EntryRead}

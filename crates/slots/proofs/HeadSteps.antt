@@ -1,12 +1,12 @@
 -- The headers of a slot at a place of a table.
-use Rattle.std.proofs.Common.{◌≡◌, ℕ, zero, suc, ◌+◌, ◌-◌, ◌*◌, ◌<◌, ◌≤◌, Bool, true, false, cond, not, ◌&&◌, eqb, ltb, leb, List, [], ◌∷◌, ◌++◌, length, get_or, drop, ℤ, sym, refl, ap, ◌∙◌, subst, add-zero, arith, length-drop}
-use mathlib.Core.Option.{Option, none, some}
+use Rattle.std.proofs.Common.{◌≡◌, ℕ, zero, suc, ◌+◌, ◌-◌, ◌*◌, ◌<◌, ◌≤◌, true, false, List, [], ◌∷◌, ◌++◌, length, get_or, drop, ℤ, sym, refl, ap, ◌∙◌, arith, length-drop}
+use mathlib.Core.Option.{none, some}
 use Rattle.std.proofs.lemmas.Bool.{cond-true, cond-false}
-use Rattle.std.proofs.lemmas.List.{drop_more, drop_all, drop-drop}
-use Rattle.format.specs.Account.{Declined, Condition, first_of}
+use Rattle.std.proofs.lemmas.List.{drop_more, drop-drop}
+use Rattle.format.specs.Account.{Declined, first_of}
 use Rattle.format.specs.Bytes.{pair, signed16}
-use Rattle.format.specs.Streams.{Rest, rest, Read, found, fault, and_then, cons_to, read_words}
-use Rattle.format.specs.Reader.{tuples, Header, header_of, header_rest, header_then, read_header, read_headers, peak_conditions, at_entry}
+use Rattle.format.specs.Streams.{Rest, rest, Read, found, fault, and_then, read_words}
+use Rattle.format.specs.Reader.{tuples, Header, header_of, header_rest, read_header, read_headers, peak_conditions, at_entry}
 use Rattle.slots.specs.declared.headers.Head.{Head}
 use Rattle.streams.specs.Ahead.{one_more}
 use Rattle.slots.proofs.Prefix.{prefixed}

@@ -1,6 +1,5 @@
 -- What was given in front of what is ahead.
-use Rattle.std.proofs.Common.{◌≡◌, ℕ, ◌+◌, List, [], ◌∷◌, ◌++◌, sym, refl, ap, ◌∙◌, append_assoc}
-use Rattle.format.specs.Account.{Declined}
+use Rattle.std.proofs.Common.{◌≡◌, List, [], ◌∷◌, ◌++◌, sym, refl, ap, append_assoc}
 use Rattle.format.specs.Streams.{Rest, rest, Read, found, fault, and_then}
 use Rattle.streams.specs.Ahead.{one_more}
 

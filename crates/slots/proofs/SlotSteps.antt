@@ -1,16 +1,15 @@
 -- The parts of a slot, one after another.
-use Rattle.std.proofs.Common.{◌≡◌, ℕ, zero, suc, ◌+◌, ◌-◌, ◌*◌, ◌%◌, ◌<◌, ◌≤◌, Bool, true, false, cond, not, ◌||◌, eqb, ltb, leb, List, [], ◌∷◌, ◌++◌, length, get_or, take, drop, Ok, Err, Result, sym, refl, ap, ◌∙◌, subst, arith, length-drop}
+use Rattle.std.proofs.Common.{◌≡◌, ℕ, zero, suc, ◌+◌, ◌-◌, ◌%◌, ◌<◌, ◌≤◌, Bool, true, false, cond, not, ◌||◌, eqb, ltb, leb, List, [], ◌∷◌, ◌++◌, length, get_or, drop, Ok, Err, Result, sym, refl, ap, ◌∙◌, arith, length-drop}
 use mathlib.Core.Option.{Option, none, some}
-use Rattle.std.proofs.lemmas.Bool.{lt-ltb, le-ltb, ltb-true, ltb-false, cond-true, cond-false, or_from, ne_eqb}
+use Rattle.std.proofs.lemmas.Bool.{cond-true, cond-false, ne_eqb}
 use Rattle.std.proofs.lemmas.List.{drop_more, drop_all, drop-drop}
 use Rattle.format.specs.Account.{Declined, Condition, iff, first_of}
 use Rattle.format.specs.Bytes.{pair}
-use Rattle.format.specs.Packed.{Points, every, only}
-use Rattle.format.specs.Streams.{Rest, rest, Read, found, fault, and_then, read_points}
-use Rattle.format.specs.Reader.{unless, Header, Entry, Checked, points_of, at_entry, at_slot, at_end, peak_conditions, read_shared, read_headers, read_entries, read_store, read_bytes_of_slot}
-use Rattle.streams.specs.declared.points.PointSet.{PointSet}
+use Rattle.format.specs.Packed.{Points, every}
+use Rattle.format.specs.Streams.{Rest, rest, Read, found, fault, and_then}
+use Rattle.format.specs.Reader.{unless, Header, Entry, Checked, at_slot, at_end, peak_conditions, read_shared, read_headers, read_entries, read_store, read_bytes_of_slot}
 use Rattle.slots.specs.declared.slot.SlotStart.{SlotStart}
-use Rattle.slots.specs.Entries.{own_or_shared, PointsRead}
+use Rattle.slots.specs.Entries.{own_or_shared}
 use Rattle.slots.specs.Slots.{bad_end, SlotRead, CheckedAs}
 use Rattle.slots.specs.declared.fault.SlotFault.{SlotFault}
 use Rattle.format.proofs.Lists.{length_listed}

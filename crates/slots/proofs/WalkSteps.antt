@@ -1,16 +1,15 @@
 -- One entry of a slot after another.
-use Rattle.std.proofs.Common.{◌≡◌, ℕ, zero, suc, ◌+◌, ◌-◌, ◌*◌, ◌<◌, ◌≤◌, Bool, true, false, cond, ltb, List, [], ◌∷◌, ◌++◌, length, get_or, take, drop, sym, refl, ap, ◌∙◌, subst, arith, length-drop, length-take}
-use mathlib.Core.Option.{Option, none, some}
+use Rattle.std.proofs.Common.{◌≡◌, ℕ, suc, ◌+◌, ◌-◌, ◌<◌, ◌≤◌, Bool, true, false, ltb, List, [], ◌∷◌, ◌++◌, length, take, drop, sym, refl, ap, ◌∙◌, arith, length-drop, length-take}
+use mathlib.Core.Option.{none}
 use Rattle.std.proofs.lemmas.Bool.{lt-ltb, le-ltb, ltb-true, ltb-false}
-use Rattle.std.proofs.lemmas.List.{drop_more, drop_all, drop-drop, drop-take}
+use Rattle.std.proofs.lemmas.List.{drop_all, drop-drop, drop-take}
 use Rattle.format.specs.Account.{Declined}
 use Rattle.format.specs.Packed.{Points}
-use Rattle.format.specs.Streams.{Rest, rest, Read, found, fault, fault_if, and_then}
+use Rattle.format.specs.Streams.{Rest, rest, Read, found, fault, and_then}
 use Rattle.format.specs.Reader.{Header, Entry, Checked, header_of, entry_of, is_private, points_of, at_entry, read_header, read_headers, read_entry, read_entries}
 use Rattle.slots.specs.declared.headers.Head.{Head}
 use Rattle.slots.specs.declared.entries.Step.{Step}
 use Rattle.slots.specs.declared.entry.Parts.{Parts}
-use Rattle.slots.specs.declared.fault.EntryFault.{EntryFault}
 use Rattle.streams.specs.Ahead.{one_more}
 use Rattle.slots.proofs.Prefix.{prefixed}
 use Rattle.slots.specs.Heads.{HeadRead}

@@ -1,4 +1,6 @@
 // The slot of a glyph, from its bytes: headers, shared points, entries and end.
+#![tactic(auto)]
+
 pub mod entries;
 pub mod entry;
 pub mod fault;

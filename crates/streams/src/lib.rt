@@ -1,4 +1,6 @@
 // Packed deltas and packed points, read from any bytes.
+#![tactic(auto)]
+
 pub mod deltas;
 pub mod fault;
 pub mod points;

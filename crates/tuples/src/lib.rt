@@ -1,4 +1,6 @@
 // What a variation stores, as pieces that are handed to a sink: its header and its data.
+#![tactic(auto)]
+
 pub mod choice;
 pub mod data;
 pub mod header;

@@ -1,11 +1,11 @@
 -- The cut of a list, one run at a time.
-use Rattle.std.proofs.Common.{◌≡◌, ℕ, zero, suc, ◌+◌, ◌-◌, ◌*◌, ◌<◌, ◌≤◌, min, Bool, true, false, cond, not, ◌&&◌, ◌||◌, ltb, leb, List, [], ◌∷◌, ◌++◌, length, take, drop, ℤ, pos, negsuc, Some, None, Option, sym, refl, ap, ◌∙◌, arith, length-drop, length-take}
+use Rattle.std.proofs.Common.{◌≡◌, ℕ, zero, suc, ◌+◌, ◌-◌, ◌<◌, ◌≤◌, true, false, not, ◌&&◌, ◌||◌, List, [], ◌∷◌, length, take, drop, ℤ, pos, negsuc, Some, Option, sym, refl, ap, ◌∙◌, arith, length-drop}
 use lib.Signed.{mag}
 use Rattle.std.specs.List.{AllByRecursion as All}
 use Rattle.std.proofs.lemmas.Bool.{cond_both, cond-true, cond-false, true≢false}
 use Rattle.std.proofs.lemmas.Int.{ints}
 use Rattle.std.proofs.lemmas.Bool.Decides.{nat_tests}
-use Rattle.format.specs.Packed.{Kind, zeros, bytes, words, kind, is_zero, is_word, starts_with, extent, Run, cut_at_most, cut}
+use Rattle.format.specs.Packed.{kind, is_zero, is_word, starts_with, extent, Run, cut_at_most, cut}
 use Rattle.format.specs.Packed.{stops as stops_at}
 use Rattle.variations.specs.declared.runs.DeltaKind.{DeltaKind}
 use Rattle.variations.specs.declared.runs.DeltaKind.TheVariants.{Zeros, Bytes, Words}

@@ -1,13 +1,11 @@
 -- The loop that looks for the end of a run.
-use Rattle.std.proofs.Common.{◌≡◌, ℕ, suc, ◌+◌, ◌-◌, ◌<◌, ◌≤◌, min, Bool, true, false, List, [], ◌∷◌, length, take, drop, ℤ, Some, None, Option, sym, refl, ap, ◌∙◌, subst, arith}
+use Rattle.std.proofs.Common.{◌≡◌, ℕ, suc, ◌+◌, ◌<◌, ◌≤◌, Bool, ◌∷◌, length, take, drop, ℤ, Some, None, Option, sym, refl, ap, ◌∙◌, subst, arith}
 use Rattle.std.specs.List.{AllByRecursion as All}
-use Rattle.format.specs.Packed.{cut}
 use Rattle.variations.specs.declared.deltas.PackedDeltas.{PackedDeltas}
 use Rattle.variations.specs.declared.runs.DeltaKind.{DeltaKind}
-use Rattle.variations.specs.declared.runs.DeltaRun.{DeltaRun}
 use Rattle.variations.specs.Deltas.{values_from, Stepped}
 use Rattle.variations.specs.Kinds.{kind_of, first_kind, kind_ahead, stops, reach}
-use Rattle.variations.specs.Runs.{Holds, run_of, RunAt}
+use Rattle.variations.specs.Runs.{Holds, RunAt}
 use Rattle.variations.proofs.Cutting.{reach_most, reach_within, run_holds, cut_step}
 
 kind_first : (c : PackedDeltas) (p : ℕ) (o : Option (ℤ × ℕ)) → Stepped c p o → kind_ahead o ≡ first_kind (values_from c p)

@@ -1,12 +1,11 @@
 -- Gaps point by point, and their cut run by run.
-use Rattle.std.proofs.Common.{◌≡◌, ℕ, zero, suc, ◌+◌, ◌-◌, ◌*◌, ◌<◌, ◌≤◌, min, Bool, true, false, cond, not, ltb, leb, List, [], ◌∷◌, ◌++◌, length, get_or, take, drop, Some, None, Option, sym, refl, ap, ◌∙◌, subst, add-one, arith, length-drop, length-take}
+use Rattle.std.proofs.Common.{◌≡◌, ℕ, zero, suc, ◌+◌, ◌-◌, ◌<◌, ◌≤◌, Bool, true, false, cond, not, List, [], ◌∷◌, length, get_or, take, drop, Some, sym, refl, ap, ◌∙◌, subst, add-one, arith, length-drop}
 use Rattle.std.specs.List.{AllByRecursion as All}
 use Rattle.std.proofs.lemmas.Bool.{cond_both, cond-true, cond-false}
 use Rattle.std.proofs.lemmas.List.{drop_more, drop_all}
 use Rattle.format.specs.Packed.{gaps_after, is_wide, same_class, class_extent, GapRun, cut_gaps_at_most}
 use Rattle.format.specs.Glyphs.{required_from}
 use Rattle.variations.specs.declared.delta.GlyphDelta.{GlyphDelta}
-use Rattle.variations.specs.declared.gaps.PointRun.{PointRun}
 use Rattle.variations.specs.Deltas.{deltas_of}
 use Rattle.variations.specs.Gaps.{gaps_from, GapStepped, in_class, cut_gaps, gap_run_of, GapRunAt}
 

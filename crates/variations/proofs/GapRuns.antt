@@ -1,16 +1,16 @@
 -- The bytes of packed points, run by run.
-use Rattle.std.proofs.Common.{◌≡◌, ℕ, zero, suc, ◌+◌, ◌-◌, ◌*◌, ◌/◌, ◌%◌, ◌<◌, ◌≤◌, min, Bool, true, false, cond, not, ltb, leb, List, [], ◌∷◌, ◌++◌, map, length, get_or, take, drop, sym, refl, ap, ◌∙◌, subst, append_assoc, append-nil, arith, length-append, length-drop, length-take}
+use Rattle.std.proofs.Common.{◌≡◌, ℕ, suc, ◌+◌, ◌-◌, ◌*◌, ◌<◌, ◌≤◌, min, Bool, true, false, List, [], ◌∷◌, ◌++◌, map, length, get_or, take, drop, sym, refl, ap, ◌∙◌, subst, arith, length-append, length-drop, length-take}
 use Rattle.std.specs.List.{AllByRecursion as All}
 use Rattle.std.proofs.ByRecursion.{All-get_or}
 use Rattle.std.proofs.lemmas.List.{take_more, drop_more, get_or-take}
 use Rattle.std.proofs.lemmas.Bool.{not-true, ltb-false}
 use Rattle.format.specs.Bytes.{joined}
-use Rattle.format.specs.Packed.{gaps_after, is_wide, same_class, gap_bytes, gap_run_bytes, count_bytes, packed_points, cut_gaps_at_most}
+use Rattle.format.specs.Packed.{gaps_after, is_wide, same_class, gap_bytes, gap_run_bytes, count_bytes}
 use Rattle.format.specs.Glyphs.{required_from}
 use Rattle.variations.specs.declared.delta.GlyphDelta.{GlyphDelta}
 use Rattle.variations.specs.declared.gaps.PointRun.{PointRun}
 use Rattle.variations.specs.Deltas.{deltas_of}
-use Rattle.variations.specs.Gaps.{gaps_from, cut_gaps, gap_run_of, gap_runs_bytes, GapRunAt}
+use Rattle.variations.specs.Gaps.{gaps_from, gap_run_of, gap_runs_bytes, GapRunAt}
 use Rattle.variations.specs.Points.{gap_width, gap_coded, required_bytes}
 use Rattle.variations.proofs.GapCuts.{gaps_fuel}
 use Rattle.variations.proofs.Filling.{joined_push}

@@ -1,7 +1,7 @@
 -- The size of packed deltas, run by run.
-use Rattle.std.proofs.Common.{◌≡◌, ℕ, zero, suc, ◌+◌, ◌-◌, ◌*◌, ◌<◌, ◌≤◌, min, List, [], ◌∷◌, ◌++◌, map, length, take, drop, ℤ, sym, refl, ap, ◌∙◌, arith, length-append, length-take}
+use Rattle.std.proofs.Common.{◌≡◌, ℕ, suc, ◌+◌, ◌-◌, ◌*◌, ◌<◌, ◌≤◌, min, List, [], ◌∷◌, ◌++◌, map, length, take, ℤ, refl, ap, ◌∙◌, arith, length-append, length-take}
 use Rattle.format.specs.Bytes.{joined}
-use Rattle.format.specs.Packed.{value_bytes, run_bytes, cut, packed_deltas}
+use Rattle.format.specs.Packed.{value_bytes, run_bytes, packed_deltas}
 use Rattle.variations.specs.declared.deltas.PackedDeltas.{PackedDeltas}
 use Rattle.variations.specs.declared.runs.DeltaKind.{DeltaKind}
 use Rattle.variations.specs.declared.runs.DeltaKind.TheVariants.{Zeros, Bytes, Words}

@@ -1,5 +1,5 @@
 -- The gaps between required points, and the run of them at a place.
-use Rattle.std.specs.Prelude.{◌≡◌, ℕ, zero, suc, ◌+◌, ◌-◌, ◌<◌, ◌≤◌, Bool, true, false, cond, List, [], ◌∷◌, map, length, take, drop, Some, None, Option}
+use Rattle.std.specs.Prelude.{◌≡◌, ℕ, zero, suc, ◌+◌, ◌-◌, ◌<◌, ◌≤◌, Bool, true, cond, List, [], ◌∷◌, map, length, take, drop, Some, None, Option}
 use Rattle.std.specs.List.{AllByRecursion as All}
 use Rattle.format.specs.Bytes.{joined}
 use Rattle.format.specs.Packed.{gaps_after, same_class, GapRun, gap_run_bytes, cut_gaps_at_most}

@@ -1,5 +1,5 @@
 -- Where a run of packed deltas ends, over the program's kinds.
-use Rattle.std.specs.Prelude.{ℕ, zero, suc, ◌*◌, Bool, true, false, cond, ◌&&◌, List, [], ◌∷◌, ℤ, pos, negsuc, Some, None, Option, int_le}
+use Rattle.std.specs.Prelude.{ℕ, zero, suc, Bool, true, false, cond, ◌&&◌, List, [], ◌∷◌, ℤ, pos, negsuc, Some, None, Option, int_le}
 use Rattle.format.specs.Packed.{Kind, zeros, bytes, words}
 use Rattle.variations.specs.declared.runs.DeltaKind.{DeltaKind}
 use Rattle.variations.specs.declared.runs.DeltaKind.TheVariants.{Zeros, Bytes, Words}

@@ -1,5 +1,5 @@
 -- The bytes of the required points of a variation.
-use Rattle.std.specs.Prelude.{ℕ, ◌/◌, ◌%◌, Bool, true, false, cond, List, [], ◌∷◌}
+use Rattle.std.specs.Prelude.{ℕ, ◌/◌, ◌%◌, Bool, true, false, List, [], ◌∷◌}
 use Rattle.format.specs.Packed.{only, packed_points}
 use Rattle.format.specs.Glyphs.{required_from}
 use Rattle.variations.specs.declared.delta.GlyphDelta.{GlyphDelta}

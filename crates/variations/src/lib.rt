@@ -1,4 +1,6 @@
 // Packed point numbers and packed deltas of a variation, straight from the deltas of a glyph.
+#![tactic(auto)]
+
 pub mod delta;
 pub mod deltas;
 pub mod gaps;

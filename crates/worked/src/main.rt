@@ -1,5 +1,7 @@
 // Runs worked streams through the packing and the reading, and tries the sinks at their limits. What it prints is compared
 // with lines that were written from the format's rules.
+#![tactic(auto)]
+
 mod show;
 mod sinks;
 

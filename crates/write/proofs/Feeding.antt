@@ -1,5 +1,5 @@
 -- The laws of `Fed` and of `Part`: bytes handed over part by part.
-use Rattle.std.proofs.Common.{◌≡◌, ℕ, ◌+◌, ◌<◌, ◌≤◌, List, [], ◌++◌, length, Ok, Err, Result, sym, refl, ap, ◌∙◌, subst, append_assoc, append-nil, arith, length-append}
+use Rattle.std.proofs.Common.{◌≡◌, ℕ, ◌≤◌, List, [], ◌++◌, length, Ok, Err, sym, refl, ap, ◌∙◌, subst, append_assoc, append-nil, arith, length-append}
 use Rattle.write.specs.declared.sink.SinkError.{SinkError}
 use Rattle.write.specs.declared.sink.SinkError.TheVariants.{Full}
 use Rattle.write.specs.Sinks.{Standing, Step, Reply, Handed, Part, Fed}

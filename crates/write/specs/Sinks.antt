@@ -1,5 +1,5 @@
 -- What a sink stands at, and what becomes of it when bytes are handed over.
-use Rattle.std.specs.Prelude.{◌≡◌, ℕ, ◌+◌, ◌-◌, ◌<◌, ◌≤◌, List, [], ◌++◌, length, drop, Ok, Err, fold, Result}
+use Rattle.std.specs.Prelude.{◌≡◌, ℕ, ◌-◌, ◌<◌, ◌≤◌, List, ◌++◌, length, drop, Ok, Err, fold, Result}
 use Rattle.write.specs.declared.sink.SinkError.{SinkError}
 use Rattle.write.specs.declared.sink.SinkError.TheVariants.{Full}
 

@@ -1,4 +1,6 @@
 // Sinks, where bytes go, and pieces, which mean bytes.
+#![tactic(auto)]
+
 pub mod buffer;
 pub mod checksum;
 pub mod counter;

@@ -1,4 +1,4 @@
-use Rattle.std.proofs.Common.{◌≡◌, ◌<◌, length, arith, below_more}
+use Rattle.std.proofs.Common.{◌<◌, length, arith, below_more}
 use Rattle.format.specs.Answers.{SizesFit}
 use Rattle.parts.specs.OfParts.{parts_glyphs}
 use Rattle.gvar.proofs.Answering.{measured_fits, measured_refuses}

@@ -1,4 +1,4 @@
-use Rattle.std.proofs.Common.{◌≡◌, ◌<◌, length, refl, arith}
+use Rattle.std.proofs.Common.{◌<◌, length, refl, arith}
 use Rattle.format.specs.Table.{table_bytes}
 use Rattle.format.specs.Answers.{long_glyphs, long_table}
 use Rattle.parts.specs.OfParts.{parts_axes, parts_glyphs}

@@ -1,4 +1,4 @@
-use Rattle.std.proofs.Common.{◌≡◌, ℕ, length, get_or, ◌∙◌, subst, add-one, arith}
+use Rattle.std.proofs.Common.{ℕ, length, get_or, ◌∙◌, subst, add-one, arith}
 use Rattle.sets.specs.OfSet.{account_of}
 use Rattle.gvar.specs.Runs.{Event, Made}
 use Rattle.gvar.specs.declared.requests.Request.TheVariants.{Glyph}

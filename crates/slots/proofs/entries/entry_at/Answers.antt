@@ -1,4 +1,4 @@
-use Rattle.std.proofs.Common.{◌≡◌, sym, refl, ap, ◌∙◌, arith}
+use Rattle.std.proofs.Common.{arith}
 use Rattle.format.specs.Reader.{at_entry}
 use Rattle.slots.specs.Faults.{entry_declined}
 use Rattle.slots.proofs.WalkSteps.{no_header, no_data, there, wrong_entry}

@@ -1,4 +1,4 @@
-use Rattle.std.proofs.Common.{◌≡◌, sym, ◌∙◌}
+use Rattle.std.proofs.Common.{sym, ◌∙◌}
 use Rattle.slots.proofs.HeadSteps.{peaks_none, peaks_more, peaks_here, peaks_never, peaks_all}
 use Rattle.slots.proofs.headers.check_peaks.Goals as goal
 

@@ -1,4 +1,4 @@
-use Rattle.std.proofs.Common.{◌≡◌, refl, arith}
+use Rattle.std.proofs.Common.{refl, arith}
 use Rattle.slots.proofs.HeadSteps.{no_four, no_tuples, head_read}
 use Rattle.slots.proofs.headers.read_header.Goals as goal
 

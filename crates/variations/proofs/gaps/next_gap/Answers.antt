@@ -1,4 +1,4 @@
-use Rattle.std.proofs.Common.{◌≡◌, ◌+◌, ◌-◌, ◌∷◌, sym, refl, ap, ◌∙◌, arith, rules}
+use Rattle.std.proofs.Common.{◌+◌, ◌∷◌, refl, ap, ◌∙◌, arith}
 use Rattle.variations.specs.Gaps.{gaps_from}
 use Rattle.variations.proofs.GapCuts.{gap_found, points_skip, points_end}
 use Rattle.variations.proofs.gaps.next_gap.Goals as goal

@@ -1,4 +1,3 @@
-use Rattle.std.proofs.Common.{◌≡◌, sym, refl, ap, ◌∙◌}
 use Rattle.variations.proofs.GapCuts.{gap_run_at}
 use Rattle.variations.proofs.gaps.next_gap_run.Goals as goal
 

@@ -1,6 +1,6 @@
-use Rattle.std.proofs.Common.{◌≡◌, ◌+◌, ◌<◌, [], ◌∷◌, ◌++◌, length, get_or, take, set, sym, refl, ap, ◌∙◌, arith, rules}
+use Rattle.std.proofs.Common.{◌≡◌, ◌+◌, ◌<◌, [], ◌∷◌, ◌++◌, length, get_or, take, refl, ap, ◌∙◌, rules}
 use Rattle.std.proofs.lemmas.List.{take_more_set}
-use Rattle.variations.specs.declared.runs.DeltaKind.TheVariants.{Zeros, Bytes, Words}
+use Rattle.variations.specs.declared.runs.DeltaKind.TheVariants.{Words}
 use Rattle.variations.specs.Coded.{coded}
 use Rattle.variations.proofs.Filling.{take_two}
 use Rattle.variations.proofs.packing.put_value.Goals as goal

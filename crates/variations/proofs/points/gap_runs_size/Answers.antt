@@ -1,4 +1,4 @@
-use Rattle.std.proofs.Common.{◌≡◌, length, sym, refl, ap, ◌∙◌, subst, arith, length-append}
+use Rattle.std.proofs.Common.{length, sym, ap, ◌∙◌, subst, arith, length-append}
 use Rattle.format.specs.Packed.{count_bytes}
 use Rattle.format.specs.Glyphs.{required_from}
 use Rattle.variations.specs.Deltas.{deltas_of}

@@ -1,4 +1,4 @@
-use Rattle.std.proofs.Common.{◌≡◌, ◌+◌, ◌<◌, [], ◌∷◌, ◌++◌, length, sym, refl, ap, ◌∙◌, rules}
+use Rattle.std.proofs.Common.{◌+◌, ◌<◌, length, refl, ◌∙◌, rules}
 use Rattle.std.proofs.lemmas.List.{take_more_set}
 use Rattle.variations.proofs.Filling.{take_two}
 use Rattle.variations.proofs.points.put_gap.Goals as goal

@@ -1,4 +1,4 @@
-use Rattle.std.proofs.Common.{◌≡◌, ◌+◌, ◌-◌, ◌*◌, ◌<◌, [], ◌∷◌, ◌++◌, length, take, drop, sym, refl, ap, ◌∙◌, arith, length-drop, length-set, rules}
+use Rattle.std.proofs.Common.{◌≡◌, ◌+◌, ◌-◌, ◌<◌, [], ◌∷◌, length, drop, sym, refl, ap, ◌∙◌, arith, length-drop, length-set, rules}
 use Rattle.std.proofs.lemmas.List.{take_more_set}
 use Rattle.variations.specs.Gaps.{gaps_from}
 use Rattle.variations.proofs.GapRuns.{next_gap_value, gap_run_more}

@@ -1,4 +1,4 @@
-use Rattle.std.proofs.Common.{◌≡◌, length, sym, refl, ap, ◌∙◌, arith, rules}
+use Rattle.std.proofs.Common.{length, ap, arith}
 use Rattle.variations.proofs.GapCuts.{count_more, one_most, points_end}
 use Rattle.variations.proofs.points.required_count.Goals as goal
 

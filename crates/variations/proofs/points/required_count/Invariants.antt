@@ -1,4 +1,4 @@
-use Rattle.std.proofs.Common.{◌≡◌, ◌+◌, ◌-◌, ◌≤◌, length, drop}
+use Rattle.std.proofs.Common.{◌≡◌, ◌+◌, ◌≤◌, length, drop}
 use Rattle.format.specs.Glyphs.{required_from}
 use Rattle.variations.specs.Deltas.{deltas_of}
 use Rattle.variations.proofs.points.required_count.Given as goal

@@ -1,5 +1,5 @@
 use Rattle.std.proofs.Common.{◌≡◌, ℕ, ◌<◌, List, Some, ap, ◌∙◌, arith}
-use Rattle.format.specs.Ranked.{first, count}
+use Rattle.format.specs.Ranked.{count}
 use Rattle.counts.specs.declared.cells.CountCell.{CountCell}
 use Rattle.counts.specs.declared.cells.Class.{Class}
 use Rattle.counts.specs.Cells.{first_at, count_at}

@@ -1,4 +1,4 @@
-use Rattle.std.proofs.Common.{◌-◌, ◌<◌, sym, mod-lt, arith}
+use Rattle.std.proofs.Common.{◌<◌, sym, mod-lt, arith}
 use Rattle.counts.proofs.Walks.{walk_start, walk_found, walk_more, walk_ends, walk_link, link_le}
 use Rattle.counts.proofs.table.CountTable.find.Goals as goal
 

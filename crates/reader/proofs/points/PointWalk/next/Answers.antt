@@ -1,4 +1,4 @@
-use Rattle.std.proofs.Common.{◌+◌, ◌-◌, List, refl, subst}
+use Rattle.std.proofs.Common.{◌+◌, ◌-◌, refl, subst}
 use Rattle.format.specs.Glyphs.{listed}
 use Rattle.reader.specs.declared.points.PointWalk.{PointWalk}
 use Rattle.reader.specs.PointWalks.{PointsLeft}

@@ -1,4 +1,4 @@
-use Rattle.std.proofs.Common.{◌≡◌, ◌+◌, ◌-◌, Bool, List, [], ◌∷◌, take, drop, sym, refl, ap, ◌∙◌, subst, arith}
+use Rattle.std.proofs.Common.{◌+◌, Bool, [], take, drop, sym, refl, ◌∙◌, subst, arith}
 use Rattle.format.specs.Reader.{checked, is_private, read_entries, entry_of, header_of}
 use Rattle.slots.proofs.HeadSteps.{not_both, un_one}
 use Rattle.slots.proofs.WalkSteps.{good_entry, moved}

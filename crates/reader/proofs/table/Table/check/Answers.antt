@@ -1,4 +1,4 @@
-use Rattle.std.proofs.Common.{◌≡◌, ◌+◌, Some, None, sym, refl, ap, ◌∙◌}
+use Rattle.std.proofs.Common.{◌+◌, Some, None, sym, refl, ap, ◌∙◌}
 use Rattle.std.proofs.lemmas.Result.{err_from_is_err_and}
 use Rattle.format.specs.Glyphs.{listed}
 use Rattle.format.specs.Reader.{checked, offset_condition}

@@ -1,4 +1,4 @@
-use Rattle.std.proofs.Common.{◌≡◌, ◌+◌, ◌-◌, take, drop, Ok, sym, refl, ap, ◌∙◌, arith}
+use Rattle.std.proofs.Common.{◌≡◌, ◌+◌, ◌-◌, drop, Ok, sym, ap, ◌∙◌, arith}
 use Rattle.format.specs.Reader.{checked, read_bytes_of_slot, read_slot}
 use Rattle.slots.specs.Slots.{SlotChecked}
 use Rattle.reader.proofs.SlotPlaces.{first_inside, second_inside, located}

@@ -1,4 +1,4 @@
-use Rattle.std.proofs.Common.{◌≡◌, ◌∙◌, subst}
+use Rattle.std.proofs.Common.{◌∙◌, subst}
 use Rattle.variations.specs.Runs.{RunAt}
 use Rattle.variations.proofs.Sizes.{sized}
 use Rattle.variations.proofs.deltas.PackedDeltas.compute_size.Goals as goal

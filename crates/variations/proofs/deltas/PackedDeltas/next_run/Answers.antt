@@ -1,4 +1,4 @@
-use Rattle.std.proofs.Common.{◌≡◌, sym, refl, ap, ◌∙◌, w16, SFits, rules}
+use Rattle.std.proofs.Common.{ap, ◌∙◌, w16, SFits, rules}
 use Rattle.std.proofs.lemmas.Int.{to_z-of_z}
 use Rattle.variations.specs.Kinds.{kind_of}
 use Rattle.variations.proofs.Ends.{run_at}

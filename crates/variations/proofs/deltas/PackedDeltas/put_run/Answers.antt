@@ -1,10 +1,10 @@
-use Rattle.std.proofs.Common.{◌≡◌, ◌+◌, ◌-◌, ◌*◌, ◌<◌, [], ◌∷◌, ◌++◌, length, take, drop, sym, refl, ap, ◌∙◌, arith, length-drop, length-set, w16, SFits, rules}
+use Rattle.std.proofs.Common.{◌≡◌, ◌+◌, ◌-◌, ◌<◌, [], ◌∷◌, ◌++◌, length, take, drop, sym, refl, ap, ◌∙◌, arith, length-drop, length-set, w16, SFits, rules}
 use Rattle.std.proofs.lemmas.List.{take_more_set, length-take-le}
 use Rattle.std.proofs.lemmas.Int.{to_z-of_z}
 use Rattle.variations.specs.Deltas.{values_from}
 use Rattle.variations.specs.Coded.{coded}
 use Rattle.format.specs.Packed.{control}
-use Rattle.variations.specs.Kinds.{meant, width}
+use Rattle.variations.specs.Kinds.{meant}
 use Rattle.variations.proofs.Filling.{control_is, next_value, run_more, empty_run}
 use Rattle.variations.proofs.deltas.PackedDeltas.put_run.Goals as goal
 

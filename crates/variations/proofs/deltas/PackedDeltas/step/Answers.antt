@@ -1,4 +1,4 @@
-use Rattle.std.proofs.Common.{◌≡◌, ◌+◌, ◌∷◌, drop, sym, refl, ap, ◌∙◌, arith, w16, SFits, rules}
+use Rattle.std.proofs.Common.{◌+◌, ◌∷◌, drop, sym, ap, ◌∙◌, arith, w16, SFits, rules}
 use Rattle.std.proofs.lemmas.Int.{to_z-of_z}
 use Rattle.variations.specs.Deltas.{column}
 use Rattle.variations.proofs.Columns.{column_keep, column_skip, column_end}
