@@ -1,7 +1,7 @@
 -- Which sets are not compiled, with which answer, and which are; and the answers of all calls together.
 use Rattle.std.proofs.Common.{◌≡◌, ℕ, ◌<◌, Bool, true, false, not, ltb, ◌⊎◌, ◌↔◌, List, [], ◌∷◌, ◌++◌, length, sym, refl, ap, ◌∙◌, subst, inl, inr, arith}
 use mathlib.Core.Option.{Option, none, some}
-use Rattle.std.specs.List.{AllByRecursion as All}
+use Rattle.std.specs.List.{AllByRecursion}
 use Rattle.std.proofs.lemmas.Bool.{ltb-true, ltb-false, lt-ltb, le-ltb, not-false, not_from_true}
 use Rattle.std.proofs.ByRecursion.{All-append}
 use Rattle.format.specs.Bytes.{joined}
@@ -48,10 +48,10 @@ module _ (a : ℕ) (gs : List Glyph) (cells allowance : ℕ) where
       by n l h (inl p) = subst Reason p.named (long_data n p.which c l h p.inside p.fit_before p.long)
       by n l h (inr p) = subst Reason p.2 (long_headers n c l h p.0 p.1)
 
-  all_fit : All Off sizes → (n : ℕ) → n < length gs → SizesFit gs n
+  all_fit : AllByRecursion Off sizes → (n : ℕ) → n < length gs → SizesFit gs n
   all_fit h n l = sizes_fit gs n (all_joined Off (length gs) 0 (λ n. of_sizes gs n) h n n (omega arith) l)
 
-  fit_all : ((n : ℕ) → n < length gs → SizesFit gs n) → All Off sizes
+  fit_all : ((n : ℕ) → n < length gs → SizesFit gs n) → AllByRecursion Off sizes
   fit_all h = none_among (length gs) 0 (λ n. of_sizes gs n) (λ j m e l. fit_sizes gs m (h m (omega arith)))
 
   -- 14 and 15
@@ -68,7 +68,7 @@ module _ (a : ℕ) (gs : List Glyph) (cells allowance : ℕ) where
   reason_of : (d : Declined) → first_of conditions ≡ some d → Reason d
   reason_of d = by (numbers_full gs) (ltb cells (variation_count gs)) refl refl
     where
-      rest : Countable gs cells → (first_of sizes ≡ some d) ⊎ (All Off sizes × (first_of ends ≡ some d)) → Reason d
+      rest : Countable gs cells → (first_of sizes ≡ some d) ⊎ (AllByRecursion Off sizes × (first_of ends ≡ some d)) → Reason d
       rest c (inl p) = of_one c d (first_among (length gs) 0 (λ n. of_sizes gs n) d p)
       rest c (inr p) = of_ends c (all_fit p.0) d p.1
 

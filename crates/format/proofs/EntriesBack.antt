@@ -1,7 +1,7 @@
 -- Headers and entries are read back as lists.
 use Rattle.std.proofs.Common.{◌≡◌, ℕ, suc, ◌+◌, false, not, ◌&&◌, leb, List, [], ◌∷◌, ◌++◌, map, length, refl, ap, append_assoc, add-zero, arith, length-append}
 use mathlib.Core.Option.{some}
-use Rattle.std.specs.List.{AllByRecursion as All}
+use Rattle.std.specs.List.{AllByRecursion}
 use Rattle.std.proofs.lemmas.Bool.{le-ltb}
 use Rattle.format.specs.Bytes.{joined}
 use Rattle.format.specs.Account.{Variation, Declined, Condition, first_of}
@@ -19,24 +19,24 @@ headers_at bytes header (v ∷ vs) at = header v at ∷ headers_at bytes header 
 module _ (g a : ℕ) (bytes : Variation → List ℕ) (header : Variation → ℕ → Header) where
   pub headers_back :
       (i : ℕ) (vs : List Variation) (r : List ℕ) (at : ℕ) →
-      All (λ v. (r : List ℕ) (at : ℕ) → read_header a (bytes v ++ r) at ≡ some (rest (header v at) r (at + length (bytes v)))) vs →
+      AllByRecursion (λ v. (r : List ℕ) (at : ℕ) → read_header a (bytes v ++ r) at ≡ some (rest (header v at) r (at + length (bytes v)))) vs →
       read_headers g a i (length vs) (joined (map bytes vs) ++ r) at ≡ found (rest (headers_at bytes header vs at) r (at + length (joined (map bytes vs))))
   headers_back i [] r at h = rw add-zero
   headers_back i (v ∷ vs) r at h =
       rw (append_assoc (bytes v) (joined (map bytes vs)) r, h.0 (joined (map bytes vs) ++ r) at, headers_back (suc i) vs r (at + length (bytes v)) h.1)
       (ap (λ (n : ℕ). found (rest (header v at ∷ headers_at bytes header vs (at + length (bytes v))) r n)) (omega (arith, length-append (bytes v) (joined (map bytes vs)))))
 
-  pub headers_all : (P : Header → Type 0) (vs : List Variation) (at : ℕ) → All (λ v. (at : ℕ) → P (header v at)) vs → All P (headers_at bytes header vs at)
+  pub headers_all : (P : Header → Type 0) (vs : List Variation) (at : ℕ) → AllByRecursion (λ v. (at : ℕ) → P (header v at)) vs → AllByRecursion P (headers_at bytes header vs at)
   headers_all P [] at h = tt
   headers_all P (v ∷ vs) at h = (h.0 at, headers_all P vs (at + length (bytes v)) h.1)
 
-  pub headers_in_step : (R : Variation → Header → Type 0) (vs : List Variation) (at : ℕ) → All (λ v. (at : ℕ) → R v (header v at)) vs → InStep R vs (headers_at bytes header vs at)
+  pub headers_in_step : (R : Variation → Header → Type 0) (vs : List Variation) (at : ℕ) → AllByRecursion (λ v. (at : ℕ) → R v (header v at)) vs → InStep R vs (headers_at bytes header vs at)
   headers_in_step R [] at h = tt
   headers_in_step R (v ∷ vs) at h = (h.0 at, headers_in_step R vs (at + length (bytes v)) h.1)
 
 -- every shared peak that a header names is there
 pub no_peak_amiss :
-    (g count i : ℕ) (hs : List Header) (cs : List Condition) → All (λ h. (not (is_embedded h.index) && leb count (peak_index h.index)) ≡ false) hs →
+    (g count i : ℕ) (hs : List Header) (cs : List Condition) → AllByRecursion (λ h. (not (is_embedded h.index) && leb count (peak_index h.index)) ≡ false) hs →
     first_of (peak_conditions g count i hs ++ cs) ≡ first_of cs
 no_peak_amiss g count i [] cs h = refl
 no_peak_amiss g count i (h ∷ hs) cs k = rw k.0 (no_peak_amiss g count (suc i) hs cs k.1)

@@ -2,7 +2,7 @@
 use Rattle.std.proofs.Common.{◌≡◌, ℕ, zero, suc, ◌+◌, ◌*◌, ◌<◌, ◌≤◌, Bool, true, false, cond, not, ◌&&◌, ltb, leb, List, [], ◌∷◌, map, length, take, drop, ℤ, sym, refl, ap, ◌∙◌, subst, mul-le-mul, arith, length-drop, length-take}
 use mathlib.Core.Option.{Option, none, some}
 use lib.ListN.{length-map}
-use Rattle.std.specs.List.{AllByRecursion as All}
+use Rattle.std.specs.List.{AllByRecursion}
 use Rattle.std.proofs.lemmas.Bool.{le-leb, lt-ltb, ltb-false, leb-false}
 use Rattle.format.specs.Bytes.{pair, signed16}
 use Rattle.format.specs.Account.{Declined, implied_start, implied_end}
@@ -140,12 +140,12 @@ module _ (c : Checked) (g p : ℕ) (shared : Points) (end : ℕ)
       (λ q w. coordinates_found i h q.value q.left q.place f pk w.1 (omega (arith, stays_ends bs at q w.0)))
 
   pub record EntriesFound (n : ℕ) (r : Rest (List Entry)) : Type 0 where
-    pub well_formed : All (WellFormed c.axes p) r.value
+    pub well_formed : AllByRecursion (WellFormed c.axes p) r.value
     pub as_many : length r.value ≡ n
     pub inside : r.place + length r.left ≤ length c.table
 
   pub entries_found :
-      (i : ℕ) (hs : List Header) (bs : List ℕ) (at : ℕ) → end ≤ length c.table → All (Fits c.axes end) hs → All (Peaked c.peak_count) hs →
+      (i : ℕ) (hs : List Header) (bs : List ℕ) (at : ℕ) → end ≤ length c.table → AllByRecursion (Fits c.axes end) hs → AllByRecursion (Peaked c.peak_count) hs →
       at + length bs ≤ length c.table → Outcome (EntriesFound (length hs)) Told (read_entries c g p shared i hs bs at)
   entries_found i [] bs at in_end f k le = record { well_formed = tt; as_many = refl; inside = le }
   entries_found i (h ∷ hs) bs at in_end f k le =

@@ -1,7 +1,7 @@
 -- One variation of a glyph: its header and its entry are read back.
 use Rattle.std.proofs.Common.{◌≡◌, ℕ, ◌+◌, ◌≤◌, Bool, true, false, not, ◌&&◌, leb, List, ◌++◌, map, length, ℤ, refl, ap, ◌∙◌, subst, arith}
 use mathlib.Core.Option.{Option, none, some}
-use Rattle.std.specs.List.{AllByRecursion as All}
+use Rattle.std.specs.List.{AllByRecursion}
 use Rattle.std.proofs.lemmas.Bool.{lt-leb, false≢true}
 use Rattle.std.proofs.ByRecursion.{All-append, All-map, All-weaker}
 use Rattle.format.specs.Bytes.{Short}
@@ -21,8 +21,8 @@ use Rattle.format.proofs.EntriesBack.{Reads}
 pub record ReadableOne (c : Checked) (p : ℕ) (ps : List (List ℤ)) (s : Option Points) (v : Variation) : Type 0 where
   pub tents_number : length v.tents ≡ c.axes
   pub deltas_number : length v.deltas ≡ p
-  pub short_tents : All ShortTent v.tents
-  pub short_deltas : All ShortDelta v.deltas
+  pub short_tents : AllByRecursion ShortTent v.tents
+  pub short_deltas : AllByRecursion ShortDelta v.deltas
   pub data_fits : length (data_bytes s v) ≤ 65535
   pub peak_there : There c (shared_index ps (peak v)) (peak v)
 
@@ -32,14 +32,14 @@ index_of ps s v = index_word (shared_index ps (peak v)) (has_region v) (is_share
 abbrev pub header : ℕ → List (List ℤ) → Option Points → Variation → ℕ → Header
 header a ps s v at = header_of a at (length (data_bytes s v)) (index_of ps s v) (header_values (shared_index ps (peak v)) v)
 
-values_short : (i : Option ℕ) (r : Bool) (ts : List Tent) → All ShortTent ts → All Short (peak_part i (map (λ t. t.peak) ts) ++ region_part r ts)
+values_short : (i : Option ℕ) (r : Bool) (ts : List Tent) → AllByRecursion ShortTent ts → AllByRecursion Short (peak_part i (map (λ t. t.peak) ts) ++ region_part r ts)
 values_short i r ts h = All-append Short (peak_part i (map (λ t. t.peak) ts)) (region_part r ts) (of_peak i) (of_region r)
   where
-    of_peak : (i : Option ℕ) → All Short (peak_part i (map (λ t. t.peak) ts))
+    of_peak : (i : Option ℕ) → AllByRecursion Short (peak_part i (map (λ t. t.peak) ts))
     of_peak none = All-map Short (λ t. t.peak) ts (All-weaker ShortTent (λ t. Short t.peak) (λ t k. k.0) ts h)
     of_peak (some j) = tt
 
-    of_region : (r : Bool) → All Short (region_part r ts)
+    of_region : (r : Bool) → AllByRecursion Short (region_part r ts)
     of_region true =
         All-append Short (map (λ t. t.start) ts) (map (λ t. t.end) ts)
         (All-map Short (λ t. t.start) ts (All-weaker ShortTent (λ t. Short t.start) (λ t k. k.1) ts h))

@@ -1,7 +1,7 @@
 -- Faults of a slot say what they are, and so does the first condition that applies.
 use Rattle.std.proofs.Common.{◌≡◌, ℕ, ◌+◌, ◌≤◌, Bool, true, false, cond, List, [], ◌∷◌, length, sym, refl, subst, arith}
 use mathlib.Core.Option.{Option, none, some}
-use Rattle.std.specs.List.{AllByRecursion as All}
+use Rattle.std.specs.List.{AllByRecursion}
 use Rattle.std.proofs.lemmas.Bool.{le-leb, lt-leb, ne_eqb, or_from}
 use Rattle.format.specs.Account.{Declined, declined, Condition, first_of}
 use Rattle.format.specs.Found.{FailsInside, WellTold}
@@ -77,6 +77,6 @@ first_told D (c ∷ cs) h d e = by c.applies refl e (λ off. first_told D cs (h.
     by true on f i = let z : c.answer ≡ d = cc in subst D z h.0
     by false off f i = i off f
 
-pub first_all : (D : Declined → Type 0) (cs : List Condition) → All (λ c. D c.answer) cs → First D cs
+pub first_all : (D : Declined → Type 0) (cs : List Condition) → AllByRecursion (λ c. D c.answer) cs → First D cs
 first_all D [] h = tt
 first_all D (c ∷ cs) h = (h.0, λ off. first_all D cs h.1)

@@ -1,7 +1,7 @@
 -- The first condition that applies: where it stands in a list, in lists put together, and in lists by number.
 use Rattle.std.proofs.Common.{◌≡◌, ℕ, zero, suc, ◌+◌, ◌<◌, Bool, true, false, cond, ◌⊎◌, List, [], ◌∷◌, ◌++◌, refl, ap, ◌∙◌, subst, inl, inr, arith}
 use mathlib.Core.Option.{none, some}
-use Rattle.std.specs.List.{AllByRecursion as All}
+use Rattle.std.specs.List.{AllByRecursion}
 use Rattle.std.proofs.ByRecursion.{All-append}
 use Rattle.format.specs.Bytes.{joined}
 use Rattle.format.specs.Account.{Condition, Declined, first_of}
@@ -35,7 +35,7 @@ first_splits (c ∷ cs) d e = by c.applies refl e (first_splits cs d)
           answers = r.answers;
         }
 
-pub first_after : (xs ys : List Condition) → All Off xs → first_of (xs ++ ys) ≡ first_of ys
+pub first_after : (xs ys : List Condition) → AllByRecursion Off xs → first_of (xs ++ ys) ≡ first_of ys
 first_after [] ys h = refl
 first_after (x ∷ xs) ys h = rw h.0 (first_after xs ys h.1)
 
@@ -62,17 +62,17 @@ first_left (x ∷ xs) ys d e = by x.applies e (first_left xs ys d)
     by true g i = g
     by false g i = i g
 
-pub first_either : (xs ys : List Condition) (d : Declined) → first_of (xs ++ ys) ≡ some d → (first_of xs ≡ some d) ⊎ (All Off xs × (first_of ys ≡ some d))
+pub first_either : (xs ys : List Condition) (d : Declined) → first_of (xs ++ ys) ≡ some d → (first_of xs ≡ some d) ⊎ (AllByRecursion Off xs × (first_of ys ≡ some d))
 first_either [] ys d e = inr (tt, e)
 first_either (x ∷ xs) ys d e = by x.applies refl e (first_either xs ys d)
   where
-    more : x.applies ≡ false → (first_of xs ≡ some d) ⊎ (All Off xs × (first_of ys ≡ some d)) → (first_of xs ≡ some d) ⊎ (All Off (x ∷ xs) × (first_of ys ≡ some d))
+    more : x.applies ≡ false → (first_of xs ≡ some d) ⊎ (AllByRecursion Off xs × (first_of ys ≡ some d)) → (first_of xs ≡ some d) ⊎ (AllByRecursion Off (x ∷ xs) × (first_of ys ≡ some d))
     more h (inl p) = inl p
     more h (inr p) = inr ((h, p.0), p.1)
 
     by : (b : Bool) → x.applies ≡ b → cond b (some x.answer) (first_of (xs ++ ys)) ≡ some d →
-        (first_of (xs ++ ys) ≡ some d → (first_of xs ≡ some d) ⊎ (All Off xs × (first_of ys ≡ some d))) →
-        (cond b (some x.answer) (first_of xs) ≡ some d) ⊎ (All Off (x ∷ xs) × (first_of ys ≡ some d))
+        (first_of (xs ++ ys) ≡ some d → (first_of xs ≡ some d) ⊎ (AllByRecursion Off xs × (first_of ys ≡ some d))) →
+        (cond b (some x.answer) (first_of xs) ≡ some d) ⊎ (AllByRecursion Off (x ∷ xs) × (first_of ys ≡ some d))
     by true h g i = inl g
     by false h g i = more h (i g)
 
@@ -84,17 +84,17 @@ pub record FirstAmong (from n : ℕ) (f : ℕ → List Condition) (d : Declined)
   pub is : from + place ≡ at
   pub inside : place < n
   pub answers : first_of (f at) ≡ some d
-  pub off_before : (j m : ℕ) → from + j ≡ m → j < place → All Off (f m)
+  pub off_before : (j m : ℕ) → from + j ≡ m → j < place → AllByRecursion Off (f m)
 
 pub first_among : (n from : ℕ) (f : ℕ → List Condition) (d : Declined) → first_of (joined (listed from n f)) ≡ some d → FirstAmong from n f d
 first_among zero from f d e = none_some d e
 first_among (suc n) from f d e = by (first_either (f from) (joined (listed (suc from) n f)) d e) (first_among n (suc from) f d)
   where
-    before : (p : ℕ) → All Off (f from) → ((j m : ℕ) → suc from + j ≡ m → j < p → All Off (f m)) → (j m : ℕ) → from + j ≡ m → j < suc p → All Off (f m)
-    before p o h zero m e l = let s : from ≡ m = omega arith in subst (λ (k : ℕ). All Off (f k)) s o
+    before : (p : ℕ) → AllByRecursion Off (f from) → ((j m : ℕ) → suc from + j ≡ m → j < p → AllByRecursion Off (f m)) → (j m : ℕ) → from + j ≡ m → j < suc p → AllByRecursion Off (f m)
+    before p o h zero m e l = let s : from ≡ m = omega arith in subst (λ (k : ℕ). AllByRecursion Off (f k)) s o
     before p o h (suc j) m e l = h j m (omega arith) (omega arith)
 
-    by : (first_of (f from) ≡ some d) ⊎ (All Off (f from) × (first_of (joined (listed (suc from) n f)) ≡ some d)) →
+    by : (first_of (f from) ≡ some d) ⊎ (AllByRecursion Off (f from) × (first_of (joined (listed (suc from) n f)) ≡ some d)) →
         (first_of (joined (listed (suc from) n f)) ≡ some d → FirstAmong (suc from) n f d) → FirstAmong from (suc n) f d
     by (inl p) i = record { place = 0; at = from; is = omega arith; inside = omega arith; answers = p; off_before = λ j m e l. absurd (omega arith) }
     by (inr p) i =
@@ -109,7 +109,7 @@ first_among (suc n) from f d e = by (first_either (f from) (joined (listed (suc 
         }
 
 pub among_first : (n from : ℕ) (f : ℕ → List Condition) (d : Declined) (i k : ℕ) → from + i ≡ k → i < n →
-    ((j m : ℕ) → from + j ≡ m → j < i → All Off (f m)) → first_of (f k) ≡ some d → first_of (joined (listed from n f)) ≡ some d
+    ((j m : ℕ) → from + j ≡ m → j < i → AllByRecursion Off (f m)) → first_of (f k) ≡ some d → first_of (joined (listed from n f)) ≡ some d
 among_first zero from f d i k e l h a = absurd (omega arith)
 among_first (suc n) from f d zero k e l h a =
     let s : k ≡ from = omega arith in
@@ -119,7 +119,7 @@ among_first (suc n) from f d (suc i) k e l h a =
     ∙ among_first n (suc from) f d i k (omega arith) (omega arith) (λ j m q b. h (suc j) m (omega arith) (omega arith)) a
 
 -- no condition of lists by number applies
-pub none_among : (n from : ℕ) (f : ℕ → List Condition) → ((j m : ℕ) → from + j ≡ m → j < n → All Off (f m)) → All Off (joined (listed from n f))
+pub none_among : (n from : ℕ) (f : ℕ → List Condition) → ((j m : ℕ) → from + j ≡ m → j < n → AllByRecursion Off (f m)) → AllByRecursion Off (joined (listed from n f))
 none_among zero from f h = tt
 none_among (suc n) from f h =
     All-append Off (f from) (joined (listed (suc from) n f)) (h 0 from (omega arith) (omega arith))

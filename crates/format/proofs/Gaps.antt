@@ -1,7 +1,7 @@
 -- The runs of gaps of a rising list of points are read back.
 use Rattle.std.proofs.Common.{◌≡◌, ℕ, zero, suc, ◌+◌, ◌-◌, ◌*◌, ◌%◌, ◌<◌, ◌≤◌, Bool, true, false, cond, ◌&&◌, ltb, leb, List, [], ◌∷◌, ◌++◌, map, length, take, drop, sym, refl, ap, ◌∙◌, subst, append_assoc, add-zero, arith, length-append, length-drop, take-append-drop, length-take}
 use mathlib.Core.Option.{some}
-use Rattle.std.specs.List.{AllByRecursion as All}
+use Rattle.std.specs.List.{AllByRecursion}
 use Rattle.std.proofs.lemmas.Bool.{le-ltb, le-leb, lt-leb, ltb-true, leb-true, and_from, and_parts}
 use Rattle.std.proofs.ByRecursion.{All-drop}
 use Rattle.std.proofs.lemmas.Bool.Decides.{nat_tests}
@@ -18,20 +18,20 @@ Holds false g = g < 256
 pub record Lawful (r : GapRun) : Type 0 where
   pub few : length r.gaps ≤ 128
   pub some_gaps : 0 < length r.gaps
-  pub fit : All (Holds r.wide) r.gaps
+  pub fit : AllByRecursion (Holds r.wide) r.gaps
 
 abbrev pub all_gaps : List GapRun → List ℕ
 all_gaps rs = joined (map (λ r. r.gaps) rs)
 
-all_wide : (gs : List ℕ) → All (Holds true) gs → All (λ (g : ℕ). (g < 65536) × (g ≡ g)) gs
+all_wide : (gs : List ℕ) → AllByRecursion (Holds true) gs → AllByRecursion (λ (g : ℕ). (g < 65536) × (g ≡ g)) gs
 all_wide [] h = tt
 all_wide (g ∷ gs) h = ((h.0, refl), all_wide gs h.1)
 
-all_same : (gs : List ℕ) → All (λ (g : ℕ). g ≡ g) gs
+all_same : (gs : List ℕ) → AllByRecursion (λ (g : ℕ). g ≡ g) gs
 all_same [] = tt
 all_same (g ∷ gs) = (refl, all_same gs)
 
-gaps_back : (w : Bool) (gs r : List ℕ) → All (Holds w) gs → read_gaps w (length gs) (joined (map (gap_bytes w) gs) ++ r) ≡ some (gs, r)
+gaps_back : (w : Bool) (gs r : List ℕ) → AllByRecursion (Holds w) gs → read_gaps w (length gs) (joined (map (gap_bytes w) gs) ++ r) ≡ some (gs, r)
 gaps_back true gs r h = words_back (λ (g : ℕ). g) (λ g. g) gs r (all_wide gs h)
 gaps_back false gs r h = bytes_back (λ (g : ℕ). g) (λ g. g) gs r (all_same gs)
 
@@ -75,7 +75,7 @@ rises_right low p q (r ∷ qs) ss h =
 
 -- one run off the front
 run_back :
-    (d : ℕ → ℕ → Declined) (m p from low : ℕ) (w : Bool) (g : ℕ) (gs more bs : List ℕ) (at : ℕ) → length gs < 128 → All (Holds w) (g ∷ gs) →
+    (d : ℕ → ℕ → Declined) (m p from low : ℕ) (w : Bool) (g : ℕ) (gs more bs : List ℕ) (at : ℕ) → length gs < 128 → AllByRecursion (Holds w) (g ∷ gs) →
     rises low p (points_after from (g ∷ gs)) ≡ true →
     let last = last_of (from + g) (points_after (from + g) gs) in
     point_runs d (suc m) p (length (g ∷ gs ++ more)) from low (gap_control w (suc (length gs)) ∷ (joined (map (gap_bytes w) (g ∷ gs)) ++ bs)) at
@@ -92,7 +92,7 @@ none_back d (suc m) p from low r at = rw add-zero
 
 more_back :
     (d : ℕ → ℕ → Declined) (m p from low : ℕ) (w : Bool) (gs more bs r : List ℕ) (at : ℕ) →
-    0 < length gs → length gs ≤ 128 → All (Holds w) gs → length (gs ++ more) ≤ m → rises low p (points_after from (gs ++ more)) ≡ true →
+    0 < length gs → length gs ≤ 128 → AllByRecursion (Holds w) gs → length (gs ++ more) ≤ m → rises low p (points_after from (gs ++ more)) ≡ true →
     ((m' from' low' at' : ℕ) → length more ≤ m' → rises low' p (points_after from' more) ≡ true →
     point_runs d m' p (length more) from' low' (bs ++ r) at' ≡ found (rest (points_after from' more) r (at' + length bs))) →
     point_runs d m p (length (gs ++ more)) from low (((gap_control w (length gs) ∷ joined (map (gap_bytes w) gs)) ++ bs) ++ r) at
@@ -113,7 +113,7 @@ more_back d (suc m) p from low w (g ∷ gs) more bs r at some_gaps few fit le up
 
 -- any lawful cut of gaps is read back
 pub runs_back :
-    (d : ℕ → ℕ → Declined) (m p from low : ℕ) (rs : List GapRun) (r : List ℕ) (at : ℕ) → All Lawful rs → length (all_gaps rs) ≤ m →
+    (d : ℕ → ℕ → Declined) (m p from low : ℕ) (rs : List GapRun) (r : List ℕ) (at : ℕ) → AllByRecursion Lawful rs → length (all_gaps rs) ≤ m →
     rises low p (points_after from (all_gaps rs)) ≡ true →
     point_runs d m p (length (all_gaps rs)) from low (joined (map gap_run_bytes rs) ++ r) at
     ≡ found (rest (points_after from (all_gaps rs)) r (at + length (joined (map gap_run_bytes rs))))
@@ -128,12 +128,12 @@ class_holds : (w : Bool) (g : ℕ) → g < 65536 → same_class w g ≡ true →
 class_holds true g h e = h
 class_holds false g h e = grind (arith, nat_tests)
 
-taken_holds : (w : Bool) (n : ℕ) (gs : List ℕ) → All (λ g. g < 65536) gs → All (Holds w) (take (class_extent w n gs) gs)
+taken_holds : (w : Bool) (n : ℕ) (gs : List ℕ) → AllByRecursion (λ g. g < 65536) gs → AllByRecursion (Holds w) (take (class_extent w n gs) gs)
 taken_holds w zero gs h = tt
 taken_holds w (suc n) [] h = tt
 taken_holds w (suc n) (g ∷ gs) h = by_test (same_class w g) refl (taken_holds w n gs h.1)
   where
-    by_test : (b : Bool) → same_class w g ≡ b → All (Holds w) (take (class_extent w n gs) gs) → All (Holds w) (take (cond b (suc (class_extent w n gs)) 0) (g ∷ gs))
+    by_test : (b : Bool) → same_class w g ≡ b → AllByRecursion (Holds w) (take (class_extent w n gs) gs) → AllByRecursion (Holds w) (take (cond b (suc (class_extent w n gs)) 0) (g ∷ gs))
     by_test true e t = (class_holds w g h.0 e, t)
     by_test false e t = tt
 
@@ -158,7 +158,7 @@ cut_gaps (suc m) (g ∷ gs) h =
     let i = cut_gaps m (drop n gs) (omega (arith, length-drop n gs)) in
     ap (λ (r : List ℕ). g ∷ r) (rw i (take-append-drop n gs))
 
-cut_lawful : (m : ℕ) (gs : List ℕ) → All (λ g. g < 65536) gs → All Lawful (cut_gaps_at_most m gs)
+cut_lawful : (m : ℕ) (gs : List ℕ) → AllByRecursion (λ g. g < 65536) gs → AllByRecursion Lawful (cut_gaps_at_most m gs)
 cut_lawful zero gs h = tt
 cut_lawful (suc m) [] h = tt
 cut_lawful (suc m) (g ∷ gs) h =
@@ -186,7 +186,7 @@ gaps_rise b low p (q ∷ qs) le h =
     let up : b + (q - b) ≡ q = omega (arith, leb-true low q a.0) in
     rw (up, gaps_rise q (suc q) p qs (omega arith) c.1)
 
-gaps_fit : (b low p : ℕ) (ps : List ℕ) → p ≤ 65536 → rises low p ps ≡ true → All (λ g. g < 65536) (gaps_after b ps)
+gaps_fit : (b low p : ℕ) (ps : List ℕ) → p ≤ 65536 → rises low p ps ≡ true → AllByRecursion (λ g. g < 65536) (gaps_after b ps)
 gaps_fit b low p [] le h = tt
 gaps_fit b low p (q ∷ qs) le h =
     let a = and_parts (leb low q) (ltb q p && rises (suc q) p qs) h in

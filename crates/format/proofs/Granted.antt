@@ -1,7 +1,7 @@
 -- What a granted compile says: none of its conditions applies.
 use Rattle.std.proofs.Common.{◌≡◌, ℕ, suc, ◌+◌, ◌<◌, ◌≤◌, true, ltb, List, [], ◌∷◌, length, ℤ, refl, arith}
 use mathlib.Core.Option.{Option, none, some}
-use Rattle.std.specs.List.{AllByRecursion as All}
+use Rattle.std.specs.List.{AllByRecursion}
 use Rattle.std.proofs.lemmas.Bool.{not-false, ltb-false}
 use Rattle.format.specs.Bytes.{joined}
 use Rattle.format.specs.Account.{Variation, Glyph, Account, Declined, Condition, declined, iff, first_of}
@@ -13,7 +13,7 @@ use Rattle.format.proofs.Lists.{all_parts, all_joined}
 
 -- the sizes of a glyph with these variations fit their words
 pub record Fits (ps : List (List ℤ)) (vs : List Variation) : Type 0 where
-  pub data_fits : All (λ v. length (data_bytes (shared_points (point_sets vs)) v) ≤ 65535) vs
+  pub data_fits : AllByRecursion (λ v. length (data_bytes (shared_points (point_sets vs)) v) ≤ 65535) vs
   pub headers_fit : 4 + length (headers_bytes ps (shared_points (point_sets vs)) vs) ≤ 65535
 
 pub record Granted (a : ℕ) (gs : List Glyph) (cells allowance n : ℕ) : Type 0 where
@@ -24,11 +24,11 @@ pub record Granted (a : ℕ) (gs : List Glyph) (cells allowance n : ℕ) : Type 
   pub table_fits : length (table_bytes a gs) ≤ allowance
   pub whole : n ≡ length (table_bytes a gs)
 
-data_of : (s : Option Points) (g i : ℕ) (vs : List Variation) → All Off (data_conditions s g i vs) → All (λ v. length (data_bytes s v) ≤ 65535) vs
+data_of : (s : Option Points) (g i : ℕ) (vs : List Variation) → AllByRecursion Off (data_conditions s g i vs) → AllByRecursion (λ v. length (data_bytes s v) ≤ 65535) vs
 data_of s g i [] h = tt
 data_of s g i (v ∷ vs) h = (ltb-false 65535 (length (data_bytes s v)) h.0, data_of s g (suc i) vs h.1)
 
-fits_of : (ps : List (List ℤ)) (g : ℕ) (vs : List Variation) → All Off (size_conditions ps g vs) → Fits ps vs
+fits_of : (ps : List (List ℤ)) (g : ℕ) (vs : List Variation) → AllByRecursion Off (size_conditions ps g vs) → Fits ps vs
 fits_of ps g vs h =
     let s = shared_points (point_sets vs) in
     let last = iff (ltb 65535 (4 + length (headers_bytes ps s vs))) (declined 13 (some g) none none) in

@@ -2,7 +2,7 @@
 use Rattle.std.proofs.Common.{◌≡◌, ℕ, ◌+◌, ◌*◌, ◌%◌, ◌<◌, Bool, true, false, cond, not, List, [], ◌∷◌, ◌++◌, map, length, ℤ, sym, refl, ap, ◌∙◌, append-nil, add-zero, arith, length-append}
 use mathlib.Core.Option.{Option, none, some}
 use lib.ListN.{length-map}
-use Rattle.std.specs.List.{AllByRecursion as All}
+use Rattle.std.specs.List.{AllByRecursion}
 use Rattle.std.proofs.lemmas.Bool.{le-leb, lt-leb}
 use Rattle.format.specs.Bytes.{Short, bits16, signed16, signed_words}
 use Rattle.format.specs.Account.{Variation}
@@ -70,7 +70,7 @@ index_back i true false h = omega arith
 index_back i false true h = omega arith
 index_back i false false h = omega arith
 
-all_short : (zs : List ℤ) → All Short zs → All (λ z. (bits16 z < 65536) × (signed16 (bits16 z) ≡ z)) zs
+all_short : (zs : List ℤ) → AllByRecursion Short zs → AllByRecursion (λ z. (bits16 z < 65536) × (signed16 (bits16 z) ≡ z)) zs
 all_short [] h = tt
 all_short (z ∷ zs) h = ((bits16_fits z h.0, signed16_back z h.0), all_short zs h.1)
 
@@ -105,7 +105,7 @@ pub header_back :
     (ps : List (List ℤ)) (s : Option Points) (v : Variation) (a : ℕ) (r : List ℕ) (at : ℕ) →
     let i = shared_index ps (peak v) in
     let w = index_word i (has_region v) (is_shared s (stored_points v.deltas)) in
-    length v.tents ≡ a → length (data_bytes s v) < 65536 → Index i → All Short (header_values i v) →
+    length v.tents ≡ a → length (data_bytes s v) < 65536 → Index i → AllByRecursion Short (header_values i v) →
     read_header a (header_bytes ps s v ++ r) at
     ≡ some (rest (header_of a at (length (data_bytes s v)) w (header_values i v)) r (at + (4 + 2 * length (header_values i v))))
 header_back ps s v a r at e size small short =

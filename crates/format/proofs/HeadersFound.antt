@@ -1,7 +1,7 @@
 -- Headers, whatever the bytes: each holds tuples of the axes, and its place is inside.
 use Rattle.std.proofs.Common.{◌≡◌, ℕ, zero, suc, ◌+◌, ◌*◌, ◌≤◌, Bool, true, false, cond, not, ◌&&◌, leb, List, [], ◌∷◌, length, take, drop, ℤ, refl, ap, arith, length-append, length-drop, length-take}
 use mathlib.Core.Option.{Option, none, some}
-use Rattle.std.specs.List.{AllByRecursion as All}
+use Rattle.std.specs.List.{AllByRecursion}
 use Rattle.format.specs.Bytes.{pair, signed16}
 use Rattle.format.specs.Streams.{Read, Rest, rest, found}
 use Rattle.format.specs.Reader.{Header, is_embedded, is_regional, peak_index, tuples, header_rest, read_header, header_then, read_headers, peak_conditions}
@@ -69,7 +69,7 @@ header_found a (s ∷ (s' ∷ (w ∷ (w' ∷ bs)))) at end e =
 
 module _ (t : List ℕ) (g a end : ℕ) (inside : end ≤ length t) where
   pub record HeadersFound (n : ℕ) (r : Rest (List Header)) : Type 0 where
-    pub fit : All (Fits a end) r.value
+    pub fit : AllByRecursion (Fits a end) r.value
     pub as_many : length r.value ≡ n
     pub ends : Ends end r
 
@@ -92,7 +92,7 @@ module _ (t : List ℕ) (g a end : ℕ) (inside : end ≤ length t) where
 
   -- the conditions on shared peaks
 
-  pub peaks_told : (count i : ℕ) (hs : List Header) → All (Fits a end) hs → All (λ c. WellTold t g c.answer) (peak_conditions g count i hs)
+  pub peaks_told : (count i : ℕ) (hs : List Header) → AllByRecursion (Fits a end) hs → AllByRecursion (λ c. WellTold t g c.answer) (peak_conditions g count i hs)
   peaks_told count i [] f = tt
   peaks_told count i (h ∷ hs) f =
       (slot_told t g (some i) 21 h.at (omega arith) (omega arith) (omega (arith, f.0.not_past)), peaks_told count (suc i) hs f.1)
@@ -101,6 +101,6 @@ module _ (t : List ℕ) (g a end : ℕ) (inside : end ≤ length t) where
 abbrev pub Peaked : ℕ → Header → Type 0
 Peaked count h = (not (is_embedded h.index) && leb count (peak_index h.index)) ≡ false
 
-pub peaks_are_there : (g count i : ℕ) (hs : List Header) → All Off (peak_conditions g count i hs) → All (Peaked count) hs
+pub peaks_are_there : (g count i : ℕ) (hs : List Header) → AllByRecursion Off (peak_conditions g count i hs) → AllByRecursion (Peaked count) hs
 peaks_are_there g count i [] o = tt
 peaks_are_there g count i (h ∷ hs) o = (o.0, peaks_are_there g count (suc i) hs o.1)

@@ -1,7 +1,7 @@
 -- Where each entry gives its variation back, required points move alike, and so the two accounts of a glyph agree.
 use Rattle.std.proofs.Common.{◌≡◌, ℕ, List, [], ◌∷◌, ℤ, sym, refl}
 use mathlib.Core.Option.{some}
-use Rattle.std.specs.List.{AllByRecursion as All}
+use Rattle.std.specs.List.{AllByRecursion}
 use Rattle.format.specs.Account.{Delta, Variation, Glyph}
 use Rattle.format.specs.Reader.{Move, Entry, read_glyph}
 use Rattle.format.specs.Movement.{Fraction, Same, part, scale, variation_scale, delta_at, move_at, moved_by_calls, moved_by_bytes}
@@ -13,7 +13,7 @@ abbrev pub FoundIn : ℕ → Entry → Type 0
 FoundIn k e = (m : Move) × (move_at e.moves k ≡ some m)
 
 -- where each entry gives its variation back, the points that all require are found in all
-pub required_found : (k : ℕ) (vs : List Variation) (es : List Entry) → InStep GivesBack vs es → All (RequiredIn k) vs → All (FoundIn k) es
+pub required_found : (k : ℕ) (vs : List Variation) (es : List Entry) → InStep GivesBack vs es → AllByRecursion (RequiredIn k) vs → AllByRecursion (FoundIn k) es
 required_found k [] [] b r = tt
 required_found k [] (e ∷ es) b r = absurd b
 required_found k (v ∷ vs) [] b r = absurd b
@@ -27,13 +27,13 @@ module _ (c : Delta → ℤ) (c' : Move → ℤ) (same : (d : Delta) (m : Move) 
       rw (b.same_peak, b.same_start, b.same_end, m.1, g.1, same g.0 m.0 g.2 g.3)
 
   -- a point that is found in every entry, required or not
-  pub found_moves_alike : (vs : List Variation) (es : List Entry) → InStep GivesBack vs es → All (FoundIn k) es → moved_by_calls c vs k at ≡ moved_by_bytes c' es k at
+  pub found_moves_alike : (vs : List Variation) (es : List Entry) → InStep GivesBack vs es → AllByRecursion (FoundIn k) es → moved_by_calls c vs k at ≡ moved_by_bytes c' es k at
   found_moves_alike [] [] b r = refl
   found_moves_alike [] (e ∷ es) b r = absurd b
   found_moves_alike (v ∷ vs) [] b r = absurd b
   found_moves_alike (v ∷ vs) (e ∷ es) b r = rw (part_alike v e b.0 r.0, found_moves_alike vs es b.1 r.1)
 
-  pub moves_alike : (vs : List Variation) (es : List Entry) → InStep GivesBack vs es → All (RequiredIn k) vs → moved_by_calls c vs k at ≡ moved_by_bytes c' es k at
+  pub moves_alike : (vs : List Variation) (es : List Entry) → InStep GivesBack vs es → AllByRecursion (RequiredIn k) vs → moved_by_calls c vs k at ≡ moved_by_bytes c' es k at
   moves_alike vs es b r = found_moves_alike vs es b (required_found k vs es b r)
 
 pub same_from : (f g : Fraction) → f ≡ g → Same f g

@@ -1,14 +1,14 @@
 -- The offsets and the slots of a table are found again.
 use Rattle.std.proofs.Common.{◌≡◌, ℕ, zero, suc, ◌+◌, ◌-◌, ◌*◌, ◌/◌, ◌%◌, ◌<◌, ◌≤◌, Bool, true, false, List, [], ◌∷◌, ◌++◌, map, length, get_or, take, drop, refl, ap, suc-add, zero-add, arith}
 use mathlib.Core.Option.{some}
-use Rattle.std.specs.List.{AllByRecursion as All}
+use Rattle.std.specs.List.{AllByRecursion}
 use Rattle.format.specs.Bytes.{long, joined}
 use Rattle.format.specs.Table.{offsets_after, offset_bytes}
 use Rattle.format.specs.Streams.{read_longs}
 use Rattle.format.specs.Reader.{read_offsets}
 use Rattle.format.proofs.Words.{word_pair, words_back}
 
-longs_back : {X : Type 0} (f : ℕ → X) (g : X → ℕ) (xs : List X) (r : List ℕ) → All (λ x. (g x < 4294967296) × (f (g x) ≡ x)) xs → read_longs f (length xs) (joined (map (λ x. long (g x)) xs) ++ r) ≡ some (xs, r)
+longs_back : {X : Type 0} (f : ℕ → X) (g : X → ℕ) (xs : List X) (r : List ℕ) → AllByRecursion (λ x. (g x < 4294967296) × (f (g x) ≡ x)) xs → read_longs f (length xs) (joined (map (λ x. long (g x)) xs) ++ r) ≡ some (xs, r)
 longs_back f g [] r h = refl
 longs_back f g (x ∷ xs) r h =
     let n = g x in
@@ -21,7 +21,7 @@ abbrev pub Held : Bool → ℕ → Type 0
 Held true o = (o / 2 < 65536) × (2 * (o / 2) ≡ o)
 Held false o = (o < 4294967296) × (o ≡ o)
 
-pub offsets_back : (short : Bool) (os : List ℕ) (r : List ℕ) → All (Held short) os → read_offsets (mathlib.Core.Bool.not short) (length os) (joined (map (offset_bytes short) os) ++ r) ≡ some (os, r)
+pub offsets_back : (short : Bool) (os : List ℕ) (r : List ℕ) → AllByRecursion (Held short) os → read_offsets (mathlib.Core.Bool.not short) (length os) (joined (map (offset_bytes short) os) ++ r) ≡ some (os, r)
 offsets_back true os r h = words_back (λ o. 2 * o) (λ o. o / 2) os r h
 offsets_back false os r h = longs_back (λ (o : ℕ). o) (λ o. o) os r h
 

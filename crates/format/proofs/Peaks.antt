@@ -2,7 +2,7 @@
 use Rattle.std.proofs.Common.{◌≡◌, ℕ, zero, suc, ◌+◌, ◌<◌, ◌≤◌, Bool, true, false, cond, ◌&&◌, ltb, List, [], ◌∷◌, map, length, get_or, ℤ, sym, refl, ap, ◌∙◌, subst, arith}
 use mathlib.Core.Option.{none, some}
 use lib.ListN.{length-map}
-use Rattle.std.specs.List.{AllByRecursion as All}
+use Rattle.std.specs.List.{AllByRecursion}
 use Rattle.std.proofs.lemmas.Bool.{and_parts, ltb-true, eq-eqb, true≢false}
 use Rattle.std.proofs.ByRecursion.{All-append, All-get_or}
 use Rattle.format.specs.Bytes.{Short, same_int, same_list}
@@ -89,7 +89,7 @@ shared_at ps p i k e =
     )
 
 -- what all peaks keep, the shared ones keep
-pub shared_keep : (P : List ℤ → Type 0) (ps : List (List ℤ)) → All P ps → All P (shared_peaks ps)
+pub shared_keep : (P : List ℤ → Type 0) (ps : List (List ℤ)) → AllByRecursion P ps → AllByRecursion P (shared_peaks ps)
 shared_keep P ps h =
     all_listed P 0 (shared_count ps) (λ r. get_or ps (ranked (length ps) (same_peak ps) (peak_score ps) r) [])
     (λ r l. All-get_or P ps (ranked (length ps) (same_peak ps) (peak_score ps) r) [] (ranked_below (length ps) (same_peak ps) (peak_score ps) r (fewer r l)) h)
@@ -104,27 +104,27 @@ shared_keep P ps h =
 
 pub record SoundPeak (a : ℕ) (p : List ℤ) : Type 0 where
   pub values_number : length p ≡ a
-  pub short_values : All Short p
+  pub short_values : AllByRecursion Short p
 
-short_peak : (ts : List Tent) → All ShortTent ts → All Short (map (λ t. t.peak) ts)
+short_peak : (ts : List Tent) → AllByRecursion ShortTent ts → AllByRecursion Short (map (λ t. t.peak) ts)
 short_peak [] h = tt
 short_peak (t ∷ ts) h = (h.0.0, short_peak ts h.1)
 
 pub sound_peak : (a : ℕ) (v : Variation) → SoundVariation a v → ShortVariation v → SoundPeak a (peak v)
 sound_peak a v s k = record { values_number = length-map v.tents (λ t. t.peak) ∙ s.tents_number; short_values = short_peak v.tents k.0 }
 
-sound_peaks_of : (a : ℕ) (vs : List Variation) → All (SoundVariation a) vs → All ShortVariation vs → All (SoundPeak a) (map peak vs)
+sound_peaks_of : (a : ℕ) (vs : List Variation) → AllByRecursion (SoundVariation a) vs → AllByRecursion ShortVariation vs → AllByRecursion (SoundPeak a) (map peak vs)
 sound_peaks_of a [] h k = tt
 sound_peaks_of a (v ∷ vs) h k = (sound_peak a v h.0 k.0, sound_peaks_of a vs h.1 k.1)
 
-sound_each : (a : ℕ) (gs : List Glyph) → All (SoundGlyph a) gs → ShortSet gs → All (SoundPeak a) (peaks_seen gs)
+sound_each : (a : ℕ) (gs : List Glyph) → AllByRecursion (SoundGlyph a) gs → ShortSet gs → AllByRecursion (SoundPeak a) (peaks_seen gs)
 sound_each a [] h k = tt
 sound_each a (g ∷ gs) h k = All-append (SoundPeak a) (map peak g.variations) (peaks_seen gs) (sound_peaks_of a g.variations h.0.each_variation k.0) (sound_each a gs h.1 k.1)
 
-pub sound_peaks : (a : ℕ) (gs : List Glyph) → Sound a gs → ShortSet gs → All (SoundPeak a) (peaks_seen gs)
+pub sound_peaks : (a : ℕ) (gs : List Glyph) → Sound a gs → ShortSet gs → AllByRecursion (SoundPeak a) (peaks_seen gs)
 sound_peaks a gs s k = sound_each a gs s.each_glyph k
 
-pub sound_shared_peaks : (a : ℕ) (gs : List Glyph) → Sound a gs → ShortSet gs → All (SoundPeak a) (shared_peaks (peaks_seen gs))
+pub sound_shared_peaks : (a : ℕ) (gs : List Glyph) → Sound a gs → ShortSet gs → AllByRecursion (SoundPeak a) (shared_peaks (peaks_seen gs))
 sound_shared_peaks a gs s k = shared_keep (SoundPeak a) (peaks_seen gs) (sound_peaks a gs s k)
 
 -- the peak of a variation of a glyph is seen

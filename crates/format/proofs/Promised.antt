@@ -1,6 +1,6 @@
 -- The main promise: what every compile keeps, after every list of calls.
 use Rattle.std.proofs.Common.{◌≡◌, ℕ, ◌≤◌, List, ◌∷◌, sym, refl, ap, ◌∙◌, subst, arith}
-use Rattle.std.specs.List.{AllByRecursion as All}
+use Rattle.std.specs.List.{AllByRecursion}
 use Rattle.format.specs.Account.{Glyph, Cells, Account, Meaning, Call, compile, opened, after, ShortCall, most_axes, ShortSet}
 use Rattle.format.specs.Table.{table_bytes, Answer, granted, compile_answer, sink_after}
 use Rattle.format.specs.Promise.{glyphs_after, table_after, Kept, RequiredMovementsAgree, EveryCompileKeeps, Compiled}
@@ -65,5 +65,5 @@ compiled k cells sink answer sink' few short e f =
 
 pub required_movements_agree : RequiredMovementsAgree
 required_movements_agree a free calls few short before cells sink later e =
-    let s : All ShortCall before = (all_parts ShortCall before (compile cells sink ∷ later) (subst (All ShortCall) e short)).0 in
+    let s : AllByRecursion ShortCall before = (all_parts ShortCall before (compile cells sink ∷ later) (subst (AllByRecursion ShortCall) e short)).0 in
     every_compile_keeps (after (opened a free) before) a free before few s refl cells sink

@@ -3,7 +3,7 @@ use Rattle.std.proofs.Common.{◌≡◌, ℕ, ◌≤◌, Bool, true, false, cond
 use mathlib.Core.Option.{Option, none, some}
 use lib.Signed.{le_z}
 use lib.ListN.{length-map}
-use Rattle.std.specs.List.{AllByRecursion as All}
+use Rattle.std.specs.List.{AllByRecursion}
 use Rattle.std.proofs.lemmas.Bool.{or_parts, eqb-true, eqb-false, not-false, ltb-false, leb-false}
 use Rattle.std.proofs.ByRecursion.{All-push}
 use Rattle.format.specs.Bytes.{Short}
@@ -18,21 +18,21 @@ pub record SoundVariation (a : ℕ) (v : Variation) : Type 0 where
 
 -- as many deltas as the first
 abbrev pub Alike : List Variation → Type 0
-Alike vs = (p : ℕ) → DeltasNumber vs p → All (λ v. length v.deltas ≡ p) vs
+Alike vs = (p : ℕ) → DeltasNumber vs p → AllByRecursion (λ v. length v.deltas ≡ p) vs
 
 pub record SoundGlyph (a : ℕ) (g : Glyph) : Type 0 where
   pub number_fits : g.number ≤ 65534
   pub few_variations : length g.variations ≤ 4095
-  pub each_variation : All (SoundVariation a) g.variations
+  pub each_variation : AllByRecursion (SoundVariation a) g.variations
   pub alike : Alike g.variations
 
 -- the numbers are distinct
 abbrev pub Apart : List Glyph → Type 0
 Apart [] = Unit {0}
-Apart (g ∷ gs) = All (λ h. g.number ≡ h.number → ⊥) gs × Apart gs
+Apart (g ∷ gs) = AllByRecursion (λ h. g.number ≡ h.number → ⊥) gs × Apart gs
 
 pub record Sound (a : ℕ) (gs : List Glyph) : Type 0 where
-  pub each_glyph : All (SoundGlyph a) gs
+  pub each_glyph : AllByRecursion (SoundGlyph a) gs
   pub numbers_apart : Apart gs
 
 -- A variation call
@@ -66,7 +66,7 @@ abbrev with_glyphs : ℕ → Cells → List Glyph → Account
 with_glyphs a f gs = record { axes = a; free = f; glyphs = gs }
 
 each_more : (a : ℕ) (f : Cells) (ts : List Given) (ds : List Delta) (gs : List Glyph) →
-    first_of (variation_conditions (with_glyphs a f gs) ts ds) ≡ none → All (SoundGlyph a) gs → All (SoundGlyph a) (add (variation_of ts ds) gs)
+    first_of (variation_conditions (with_glyphs a f gs) ts ds) ≡ none → AllByRecursion (SoundGlyph a) gs → AllByRecursion (SoundGlyph a) (add (variation_of ts ds) gs)
 each_more a f ts ds [] e s = tt
 each_more a f ts ds (g ∷ []) e s =
     let o = none_applies (variation_conditions (with_glyphs a f (g ∷ [])) ts ds) e in
@@ -74,7 +74,7 @@ each_more a f ts ds (g ∷ []) e s =
 each_more a f ts ds (g ∷ (h ∷ gs)) e s = (s.0, each_more a f ts ds (h ∷ gs) e s.1)
 
 -- numbers stay as they are
-other_more : (P : ℕ → Type 0) (v : Variation) (gs : List Glyph) → All (λ h. P h.number) gs → All (λ h. P h.number) (add v gs)
+other_more : (P : ℕ → Type 0) (v : Variation) (gs : List Glyph) → AllByRecursion (λ h. P h.number) gs → AllByRecursion (λ h. P h.number) (add v gs)
 other_more P v [] h = tt
 other_more P v (g ∷ []) h = h
 other_more P v (g ∷ (k ∷ gs)) h = (h.0, other_more P v (k ∷ gs) h.1)
@@ -173,7 +173,7 @@ short_tent g h = by g.peak g.bounds h
     by p none h = (h.0, short_least p (pos 0) h.0 (omega arith), short_most p (pos 0) h.0 (omega arith))
     by p (some b) h = (h.0, h.1.0, h.1.1)
 
-short_tents_of : (ts : List Given) → All ShortGiven ts → All ShortTent (map tent ts)
+short_tents_of : (ts : List Given) → AllByRecursion ShortGiven ts → AllByRecursion ShortTent (map tent ts)
 short_tents_of [] h = tt
 short_tents_of (t ∷ ts) h = (short_tent t h.0, short_tents_of ts h.1)
 
@@ -183,7 +183,7 @@ short_more v (g ∷ []) k h = (All-push ShortVariation g.variations v h.0 k, tt)
 short_more v (g ∷ (f ∷ gs)) k h = (h.0, short_more v (f ∷ gs) k h.1)
 
 short_accepted : (A : Account) (c : Call) → ShortCall c → ShortSet A.glyphs → ShortSet (accepted A c).glyphs
-short_accepted A (glyph n) k h = All-push (λ (g : Glyph). All ShortVariation g.variations) A.glyphs (record { number = n; variations = [] }) h tt
+short_accepted A (glyph n) k h = All-push (λ (g : Glyph). AllByRecursion ShortVariation g.variations) A.glyphs (record { number = n; variations = [] }) h tt
 short_accepted A (variation ts ds) k h = short_more (variation_of ts ds) A.glyphs (short_tents_of ts k.0, k.1) h
 short_accepted A (compile cells sink) k h = h
 
@@ -194,9 +194,9 @@ short_next A c k h = by (refusal A c)
     by none = short_accepted A c k h
     by (some d) = h
 
-short_after : (A : Account) (cs : List Call) → All ShortCall cs → ShortSet A.glyphs → ShortSet (after A cs).glyphs
+short_after : (A : Account) (cs : List Call) → AllByRecursion ShortCall cs → ShortSet A.glyphs → ShortSet (after A cs).glyphs
 short_after A [] k h = h
 short_after A (c ∷ cs) k h = short_after (next A c) cs k.1 (short_next A c k.0 h)
 
-pub short_reached : (a : ℕ) (free : Cells) (calls : List Call) → All ShortCall calls → ShortSet (glyphs_after a free calls)
+pub short_reached : (a : ℕ) (free : Cells) (calls : List Call) → AllByRecursion ShortCall calls → ShortSet (glyphs_after a free calls)
 short_reached a free calls k = subst ShortSet (glyphs_are a free calls) (short_after (opened a free) calls k tt)

@@ -1,7 +1,7 @@
 -- The promise can be kept, and a wrong table, answer or sink breaks it: one set, by computation.
 use Rattle.std.proofs.Common.{◌≡◌, ℕ, ◌≤◌, true, List, [], ◌∷◌, ◌++◌, length, take, set, ℤ, pos, negsuc, nat_abs, sym, refl, ap, ◌∙◌, subst, arith}
 use mathlib.Core.Option.{none, some}
-use Rattle.std.specs.List.{AllByRecursion as All}
+use Rattle.std.specs.List.{AllByRecursion}
 use Rattle.std.proofs.lemmas.Bool.{false≢true}
 use Rattle.format.specs.Account.{Delta, Glyph, Cells, Call, glyph, variation, Meaning, opened, after, ShortCall, Declined, declined}
 use Rattle.format.specs.Table.{granted, refused, table_of, table_bytes, compile_answer}
@@ -24,7 +24,7 @@ one = record { number = 0; variations = record { tents = record { peak = pos 0x4
 abbrev buffer : ℕ → List ℕ → Meaning
 buffer n bs = record { allowance = n; state = bs; step = λ s b. s ++ (b ∷ []) }
 
-short : All ShortCall calls
+short : AllByRecursion ShortCall calls
 short = (tt, ((((omega arith, tt), tt), ((omega arith, omega arith), tt)), tt))
 
 -- It can be kept

@@ -2,7 +2,7 @@
 use Rattle.std.proofs.Common.{◌≡◌, ℕ, zero, suc, ◌+◌, ◌-◌, ◌%◌, ◌<◌, ◌≤◌, Bool, true, false, cond, ltb, List, [], ◌∷◌, ◌++◌, map, length, take, drop, replicate, ℤ, pos, negsuc, refl, ap, ◌∙◌, append_assoc, add-zero, arith, length-append, length-drop, take-append-drop, length-take}
 use mathlib.Core.Option.{some}
 use lib.Signed.{mag}
-use Rattle.std.specs.List.{AllByRecursion as All}
+use Rattle.std.specs.List.{AllByRecursion}
 use Rattle.std.proofs.lemmas.Bool.{le-ltb, or_parts, ltb-true, not-false}
 use Rattle.std.proofs.ByRecursion.{All-drop}
 use Rattle.std.proofs.lemmas.Bool.Decides.{nat_tests}
@@ -22,12 +22,12 @@ Holds words z = mag z < 32768
 pub record Lawful (r : Run) : Type 0 where
   pub few : length r.values ≤ 64
   pub some_values : 0 < length r.values
-  pub fit : All (Holds r.of) r.values
+  pub fit : AllByRecursion (Holds r.of) r.values
 
 abbrev pub all_values : List Run → List ℤ
 all_values rs = joined (map (λ r. r.values) rs)
 
-zeros_back : (zs : List ℤ) → All (Holds zeros) zs → replicate (length zs) (pos 0) ≡ zs
+zeros_back : (zs : List ℤ) → AllByRecursion (Holds zeros) zs → replicate (length zs) (pos 0) ≡ zs
 zeros_back [] h = refl
 zeros_back (z ∷ zs) h = rw (h.0, zeros_back zs h.1)
 
@@ -35,15 +35,15 @@ zeros_no_bytes : (zs : List ℤ) (r : List ℕ) → joined (map (value_bytes zer
 zeros_no_bytes [] r = refl
 zeros_no_bytes (z ∷ zs) r = zeros_no_bytes zs r
 
-all_words : (zs : List ℤ) → All (Holds words) zs → All (λ z. (bits16 z < 65536) × (signed16 (bits16 z) ≡ z)) zs
+all_words : (zs : List ℤ) → AllByRecursion (Holds words) zs → AllByRecursion (λ z. (bits16 z < 65536) × (signed16 (bits16 z) ≡ z)) zs
 all_words [] h = tt
 all_words (z ∷ zs) h = ((bits16_fits z h.0, signed16_back z h.0), all_words zs h.1)
 
-all_bytes : (zs : List ℤ) → All (Holds bytes) zs → All (λ z. signed8 (bits8 z) ≡ z) zs
+all_bytes : (zs : List ℤ) → AllByRecursion (Holds bytes) zs → AllByRecursion (λ z. signed8 (bits8 z) ≡ z) zs
 all_bytes [] h = tt
 all_bytes (z ∷ zs) h = (signed8_back z h.0, all_bytes zs h.1)
 
-pub values_back : (k : Kind) (zs : List ℤ) (r : List ℕ) → All (Holds k) zs → read_values k (length zs) (joined (map (value_bytes k) zs) ++ r) ≡ some (zs, r)
+pub values_back : (k : Kind) (zs : List ℤ) (r : List ℕ) → AllByRecursion (Holds k) zs → read_values k (length zs) (joined (map (value_bytes k) zs) ++ r) ≡ some (zs, r)
 values_back zeros zs r h = rw (zeros_back zs h, zeros_no_bytes zs r)
 values_back bytes zs r h = bytes_back signed8 bits8 zs r (all_bytes zs h)
 values_back words zs r h = words_back signed16 bits16 zs r (all_words zs h)
@@ -68,7 +68,7 @@ held_length words (z ∷ zs) = let e = held_length words zs in omega arith
 
 -- one run off the front
 run_back :
-    (d : ℕ → ℕ → Declined) (m : ℕ) (k : Kind) (v : ℤ) (vs more : List ℤ) (bs : List ℕ) (at : ℕ) → length vs < 64 → All (Holds k) (v ∷ vs) →
+    (d : ℕ → ℕ → Declined) (m : ℕ) (k : Kind) (v : ℤ) (vs more : List ℤ) (bs : List ℕ) (at : ℕ) → length vs < 64 → AllByRecursion (Holds k) (v ∷ vs) →
     delta_runs d (suc m) (length (v ∷ vs ++ more)) (control k (suc (length vs)) ∷ (joined (map (value_bytes k) (v ∷ vs)) ++ bs)) at
     ≡ and_then (delta_runs d m (length more) bs (at + (1 + held k (suc (length vs))))) (λ s. found (rest (v ∷ vs ++ s.value) s.left s.place))
 run_back d m k v vs more bs at few h =
@@ -83,7 +83,7 @@ none_back d (suc m) r at = rw add-zero
 -- one run more, before what is read back already
 more_back :
     (d : ℕ → ℕ → Declined) (m : ℕ) (k : Kind) (zs more : List ℤ) (bs r : List ℕ) (at : ℕ) →
-    0 < length zs → length zs ≤ 64 → All (Holds k) zs → length (zs ++ more) ≤ m →
+    0 < length zs → length zs ≤ 64 → AllByRecursion (Holds k) zs → length (zs ++ more) ≤ m →
     ((m' at' : ℕ) → length more ≤ m' → delta_runs d m' (length more) (bs ++ r) at' ≡ found (rest more r (at' + length bs))) →
     delta_runs d m (length (zs ++ more)) (((control k (length zs) ∷ joined (map (value_bytes k) zs)) ++ bs) ++ r) at
     ≡ found (rest (zs ++ more) r (at + length ((control k (length zs) ∷ joined (map (value_bytes k) zs)) ++ bs)))
@@ -96,7 +96,7 @@ more_back d (suc m) k (v ∷ vs) more bs r at some_values few fit le ih =
     ∙ rw (ih m (at + (1 + held k (suc (length vs)))) (omega arith)) (ap (λ (n : ℕ). found (rest (v ∷ vs ++ more) r n)) (omega (arith, length-append (joined (map (value_bytes k) (v ∷ vs))) bs, held_length k (v ∷ vs)))))
 
 pub deltas_back :
-    (d : ℕ → ℕ → Declined) (m : ℕ) (rs : List Run) (r : List ℕ) (at : ℕ) → All Lawful rs → length (all_values rs) ≤ m →
+    (d : ℕ → ℕ → Declined) (m : ℕ) (rs : List Run) (r : List ℕ) (at : ℕ) → AllByRecursion Lawful rs → length (all_values rs) ≤ m →
     delta_runs d m (length (all_values rs)) (joined (map run_bytes rs) ++ r) at ≡ found (rest (all_values rs) r (at + length (joined (map run_bytes rs))))
 deltas_back d m [] r at h le = none_back d m r at
 deltas_back d m (run ∷ rs) r at h le =
@@ -133,12 +133,12 @@ goes_on zeros z zs h e = kind_zero z (not-false (is_zero (kind z)) e)
 goes_on bytes z zs h e = kind_not_word z (or_parts (is_word (kind z)) _ e).0
 goes_on words z zs h e = h
 
-taken_holds : (k : Kind) (n : ℕ) (zs : List ℤ) → All Short zs → All (Holds k) (take (extent k n zs) zs)
+taken_holds : (k : Kind) (n : ℕ) (zs : List ℤ) → AllByRecursion Short zs → AllByRecursion (Holds k) (take (extent k n zs) zs)
 taken_holds k zero zs h = tt
 taken_holds k (suc n) [] h = tt
 taken_holds k (suc n) (z ∷ zs) h = by_test (stops k z zs) refl (taken_holds k n zs h.1)
   where
-    by_test : (b : Bool) → stops k z zs ≡ b → All (Holds k) (take (extent k n zs) zs) → All (Holds k) (take (cond b 0 (suc (extent k n zs))) (z ∷ zs))
+    by_test : (b : Bool) → stops k z zs ≡ b → AllByRecursion (Holds k) (take (extent k n zs) zs) → AllByRecursion (Holds k) (take (cond b 0 (suc (extent k n zs))) (z ∷ zs))
     by_test true e t = tt
     by_test false e t = (goes_on k z zs h.0 e, t)
 
@@ -156,7 +156,7 @@ cut_values (suc m) (z ∷ zs) h =
     let i = cut_values m (drop n zs) (omega (arith, length-drop n zs)) in
     ap (λ (r : List ℤ). z ∷ r) (rw i (take-append-drop n zs))
 
-pub cut_lawful : (m : ℕ) (zs : List ℤ) → All Short zs → All Lawful (cut_at_most m zs)
+pub cut_lawful : (m : ℕ) (zs : List ℤ) → AllByRecursion Short zs → AllByRecursion Lawful (cut_at_most m zs)
 cut_lawful zero zs h = tt
 cut_lawful (suc m) [] h = tt
 cut_lawful (suc m) (z ∷ zs) h =
@@ -171,7 +171,7 @@ cut_lawful (suc m) (z ∷ zs) h =
 
 -- packed deltas are read back, whatever follows them
 pub packed_deltas_back :
-    (d : ℕ → ℕ → Declined) (zs : List ℤ) (r : List ℕ) (at : ℕ) → All Short zs →
+    (d : ℕ → ℕ → Declined) (zs : List ℤ) (r : List ℕ) (at : ℕ) → AllByRecursion Short zs →
     read_deltas d (length zs) (packed_deltas zs ++ r) at ≡ found (rest zs r (at + length (packed_deltas zs)))
 packed_deltas_back d zs r at h =
     let v = cut_values (length zs) zs (omega arith) in

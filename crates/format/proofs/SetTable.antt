@@ -1,7 +1,7 @@
 -- A granted set: its table fits its fields, and the two accounts of each of its glyphs agree.
 use Rattle.std.proofs.Common.{◌≡◌, ℕ, ◌+◌, ◌<◌, ◌≤◌, Bool, true, false, ◌||◌, ltb, leb, List, [], ◌∷◌, ◌++◌, length, get_or, sym, refl, ap, ◌∙◌, subst, arith}
 use mathlib.Core.Option.{Option, none, some}
-use Rattle.std.specs.List.{AllByRecursion as All}
+use Rattle.std.specs.List.{AllByRecursion}
 use Rattle.std.proofs.lemmas.Bool.{and_parts, ltb-true, ltb-false, le-leb, false≢true}
 use Rattle.std.proofs.ByRecursion.{All-weaker}
 use Rattle.format.specs.Bytes.{Short, all}
@@ -23,7 +23,7 @@ use Rattle.format.proofs.Slots.{PeakThere, Readable, padded_slot_read_back}
 use Rattle.format.proofs.Movements.{agree_from_entries}
 use Rattle.format.proofs.Lists.{all_in, test_listed, all_from}
 
-points_few : (a p : ℕ) (vs : List Variation) → All (SoundVariation a) vs → DeltasNumber vs p → p ≤ 32767
+points_few : (a p : ℕ) (vs : List Variation) → AllByRecursion (SoundVariation a) vs → DeltasNumber vs p → p ≤ 32767
 points_few a p [] s d = d
 points_few a p (v ∷ vs) s d = omega (arith, s.0.few_deltas)
 
@@ -47,7 +47,7 @@ set_fitting a gs few sound short full small =
     record {
       few_axes = few;
       peaks_of_axes = All-weaker (SoundPeak a) (λ q. length q ≡ a) (λ q s. s.values_number) ps (sound_shared_peaks a gs sound short);
-      peaks_short = All-weaker (SoundPeak a) (All Short) (λ q s. s.short_values) ps (sound_shared_peaks a gs sound short);
+      peaks_short = All-weaker (SoundPeak a) (AllByRecursion Short) (λ q s. s.short_values) ps (sound_shared_peaks a gs sound short);
       few_peaks = few_shared_peaks (peaks_seen gs);
       few_glyphs = subst (λ (n : ℕ). n ≤ 65535) (sym (length_glyphs_bytes gs)) (glyphs_few a gs sound full);
       small_data = small;
@@ -74,7 +74,7 @@ module _ (a : ℕ) (gs : List Glyph) (cells allowance n : ℕ) (few : a ≤ 6553
     readable =
         let vs = g.variations in
         let s = sound_one.each_variation in
-        let k = all_in (λ (g : Glyph). All ShortVariation g.variations) g gs one short in
+        let k = all_in (λ (g : Glyph). AllByRecursion ShortVariation g.variations) g gs one short in
         let f = fits_of a cells allowance n g gs one sound.numbers_apart is in
         record {
           axes_agree = refl;

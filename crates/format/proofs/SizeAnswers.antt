@@ -1,7 +1,7 @@
 -- The conditions on a glyph's sizes: which is the first that applies, and that none does exactly where the sizes fit.
 use Rattle.std.proofs.Common.{◌≡◌, ℕ, zero, suc, ◌+◌, ◌<◌, ◌≤◌, Bool, true, false, ltb, ◌⊎◌, List, [], ◌∷◌, map, length, get_or, refl, ap, ◌∙◌, inl, inr, arith}
 use mathlib.Core.Option.{Option, none, some}
-use Rattle.std.specs.List.{AllByRecursion as All}
+use Rattle.std.specs.List.{AllByRecursion}
 use Rattle.std.proofs.lemmas.Bool.{ltb-true, ltb-false, lt-ltb, le-ltb}
 use Rattle.std.proofs.ByRecursion.{All-append}
 use Rattle.format.specs.Account.{Variation, Glyph, Declined, Condition, iff, first_of}
@@ -70,12 +70,12 @@ module _ (s : Option Points) (g : ℕ) where
   long_first i (v ∷ vs) (suc p) k e l m h =
       rw (le-ltb 65535 (length (data_bytes s v)) (h 0 (omega arith))) (long_first (suc i) vs p k (omega arith) (omega arith) m (λ j b. h (suc j) (omega arith)))
 
-  pub data_fit : (i : ℕ) (vs : List Variation) → All Off (data_conditions s g i vs) → (j : ℕ) → j < length vs → size_at vs j ≤ 65535
+  pub data_fit : (i : ℕ) (vs : List Variation) → AllByRecursion Off (data_conditions s g i vs) → (j : ℕ) → j < length vs → size_at vs j ≤ 65535
   data_fit i [] h j l = absurd (omega arith)
   data_fit i (v ∷ vs) h zero l = ltb-false 65535 (length (data_bytes s v)) h.0
   data_fit i (v ∷ vs) h (suc j) l = data_fit (suc i) vs h.1 j (omega arith)
 
-  pub fit_data : (i : ℕ) (vs : List Variation) → ((j : ℕ) → j < length vs → size_at vs j ≤ 65535) → All Off (data_conditions s g i vs)
+  pub fit_data : (i : ℕ) (vs : List Variation) → ((j : ℕ) → j < length vs → size_at vs j ≤ 65535) → AllByRecursion Off (data_conditions s g i vs)
   fit_data i [] h = tt
   fit_data i (v ∷ vs) h = (le-ltb 65535 (length (data_bytes s v)) (h 0 (omega arith)), fit_data (suc i) vs (λ j l. h (suc j) (omega arith)))
 
@@ -94,12 +94,12 @@ module _ (gs : List Glyph) (n : ℕ) where
   abbrev pub of_sizes : List Condition
   of_sizes = size_conditions (peaks_seen gs) n (variations_of n gs)
 
-  pub sizes_fit : All Off of_sizes → SizesFit gs n
+  pub sizes_fit : AllByRecursion Off of_sizes → SizesFit gs n
   sizes_fit h =
       let p = all_parts Off of_data of_headers h in
       (data_fit points n 0 (variations_of n gs) p.0, ltb-false 65535 (headers_size gs n) p.1.0)
 
-  pub fit_sizes : SizesFit gs n → All Off of_sizes
+  pub fit_sizes : SizesFit gs n → AllByRecursion Off of_sizes
   fit_sizes h = All-append Off of_data of_headers (fit_data points n 0 (variations_of n gs) h.0) (le-ltb 65535 (headers_size gs n) h.1, tt)
 
   -- the data of variation i is the first that is too long
@@ -121,7 +121,7 @@ module _ (gs : List Glyph) (n : ℕ) where
       last true q h = (ltb-true 65535 (headers_size gs n) q, some_same (by_set 13 (some n) none) d h)
       last false q h = none_some d h
 
-      by : (first_of of_data ≡ some d) ⊎ (All Off of_data × (first_of of_headers ≡ some d)) → LongData d ⊎ LongHeaders d
+      by : (first_of of_data ≡ some d) ⊎ (AllByRecursion Off of_data × (first_of of_headers ≡ some d)) → LongData d ⊎ LongHeaders d
       by (inl p) =
           let r = first_long points n 0 (variations_of n gs) d p in
           let s : r.place ≡ r.at = omega (arith, r.is) in

@@ -1,7 +1,7 @@
 -- A slot, whatever its bytes: what is found in it is well formed, and each fault says what it is.
 use Rattle.std.proofs.Common.{◌≡◌, ℕ, zero, suc, ◌+◌, ◌-◌, ◌*◌, ◌%◌, ◌<◌, ◌≤◌, Bool, true, false, ◌||◌, ltb, leb, List, [], ◌∷◌, ◌++◌, length, drop, refl, arith, length-drop, length-take}
 use mathlib.Core.Option.{none, some}
-use Rattle.std.specs.List.{AllByRecursion as All}
+use Rattle.std.specs.List.{AllByRecursion}
 use Rattle.std.proofs.lemmas.Bool.{leb-false, ltb-false, or_parts}
 use Rattle.std.proofs.ByRecursion.{All-append}
 use Rattle.format.specs.Bytes.{pair}
@@ -26,7 +26,7 @@ module _ (c : Checked) (g p : ℕ) (room : c.peaks_at + 2 * (c.axes * c.peak_cou
   -- the entries of a slot
   pub record SlotFound (es : List Entry) : Type 0 where
     pub few : length es ≤ 4095
-    pub well_formed : All (WellFormed c.axes p) es
+    pub well_formed : AllByRecursion (WellFormed c.axes p) es
 
   at_end_found : (at : ℕ) (es : List Entry) (bs : List ℕ) → at ≤ length c.table → SlotFound es → Outcome SlotFound Told (at_end g at es bs)
   at_end_found at es [] le h = h
@@ -42,7 +42,7 @@ module _ (c : Checked) (g p : ℕ) (room : c.peaks_at + 2 * (c.axes * c.peak_cou
   -- shared points, entries and what follows them
   data_found :
       (b : Bool) (hs : List Header) (bs : List ℕ) (at end : ℕ) → end ≤ length c.table → length hs ≤ 4095 →
-      All (Fits c.axes end) hs → All (Peaked c.peak_count) hs → at + length bs ≤ length c.table →
+      AllByRecursion (Fits c.axes end) hs → AllByRecursion (Peaked c.peak_count) hs → at + length bs ≤ length c.table →
       Outcome SlotFound Told (and_then (read_shared g p b bs at) (λ s. and_then (read_entries c g p s.value 0 hs s.left s.place) (λ r. at_end g r.place r.value r.left)))
   data_found b hs bs at end le few f peaked inside =
       outcome_then (InPlace (at_slot g) p bs at) SlotFound (FailsInside (at_slot g) 22 bs at) Told (read_shared g p b bs at) _ (shared_found b bs at)

@@ -1,7 +1,7 @@
 -- The parts of a slot put together: count word, data offset, headers, shared points, data, pad.
 use Rattle.std.proofs.Common.{◌≡◌, ℕ, zero, suc, ◌+◌, ◌%◌, ◌<◌, ◌≤◌, Bool, true, false, cond, not, ◌&&◌, ltb, leb, ◌⊎◌, List, [], ◌∷◌, ◌++◌, length, get_or, drop, refl, ap, subst, inl, inr, arith}
 use mathlib.Core.Option.{Option, none, some}
-use Rattle.std.specs.List.{AllByRecursion as All}
+use Rattle.std.specs.List.{AllByRecursion}
 use Rattle.std.proofs.lemmas.Bool.{le-leb, lt-leb, le-ltb}
 use Rattle.format.specs.Account.{Variation, Declined}
 use Rattle.format.specs.Packed.{Points, every, packed_points}
@@ -21,14 +21,14 @@ abbrev pub SharedBack : ℕ → Option Points → Type 0
 SharedBack p none = Unit {0}
 SharedBack p (some q) = PointsBack p q
 
-set_back : (p : ℕ) (vs : List Variation) (b : ℕ) → p ≤ 32767 → All (λ v. length v.deltas ≡ p) vs → PointsBack p (get_or (point_sets vs) b every)
+set_back : (p : ℕ) (vs : List Variation) (b : ℕ) → p ≤ 32767 → AllByRecursion (λ v. length v.deltas ≡ p) vs → PointsBack p (get_or (point_sets vs) b every)
 set_back p [] b few h d r at = refl
 set_back p (v ∷ vs) zero few h d r at =
     let q = stored_points v.deltas in
     subst (λ (n : ℕ). read_points d n (packed_points q ++ r) at ≡ found (rest q r (at + length (packed_points q)))) h.0 (stored_points_back d v.deltas r at (omega (arith, h.0)))
 set_back p (v ∷ vs) (suc b) few h d r at = set_back p vs b few h.1 d r at
 
-pub shared_set_back : (p : ℕ) (vs : List Variation) → p ≤ 32767 → All (λ v. length v.deltas ≡ p) vs → SharedBack p (shared_points (point_sets vs))
+pub shared_set_back : (p : ℕ) (vs : List Variation) → p ≤ 32767 → AllByRecursion (λ v. length v.deltas ≡ p) vs → SharedBack p (shared_points (point_sets vs))
 shared_set_back p vs few h = by (ltb 1 (set_count (point_sets vs) best))
   where
     best : ℕ
@@ -73,7 +73,7 @@ pub store_back :
     count % 4096 ≡ k → leb 32768 count ≡ b → offset ≡ 4 + length hb → offset ≤ length slot →
     drop 4 slot ≡ hb ++ (sb ++ (db ++ pad)) → drop offset slot ≡ sb ++ (db ++ pad) →
     read_headers g c.axes 0 k (hb ++ (sb ++ (db ++ pad))) (at + 4) ≡ found (rest hs (sb ++ (db ++ pad)) ((at + 4) + length hb)) →
-    All (λ h. (not (is_embedded h.index) && leb c.peak_count (peak_index h.index)) ≡ false) hs →
+    AllByRecursion (λ h. (not (is_embedded h.index) && leb c.peak_count (peak_index h.index)) ≡ false) hs →
     read_shared g p b (sb ++ (db ++ pad)) (at + offset) ≡ found (rest sh (db ++ pad) ((at + offset) + length sb)) →
     read_entries c g p sh 0 hs (db ++ pad) ((at + offset) + length sb) ≡ found (rest es pad (((at + offset) + length sb) + length db)) →
     Pad pad →

@@ -1,7 +1,7 @@
 -- A slot is read back: the bytes of a glyph, padded or not, give an entry for each variation, in their order, that gives it back.
 use Rattle.std.proofs.Common.{◌≡◌, ℕ, ◌+◌, ◌<◌, ◌≤◌, Bool, true, false, not, ◌&&◌, leb, List, [], ◌∷◌, ◌++◌, map, length, drop, ℤ, sym, refl, ap, ◌∙◌, subst, append_assoc, arith, length-append}
 use mathlib.Core.Option.{Option, none, some}
-use Rattle.std.specs.List.{AllByRecursion as All}
+use Rattle.std.specs.List.{AllByRecursion}
 use Rattle.std.proofs.ByRecursion.{All-weaker}
 use Rattle.format.specs.Bytes.{word, joined}
 use Rattle.format.specs.Account.{Variation, ShortTent, ShortDelta}
@@ -27,13 +27,13 @@ pub record Readable (c : Checked) (a p : ℕ) (ps : List (List ℤ)) (vs : List 
   pub axes_agree : a ≡ c.axes
   pub points_few : p ≤ 32767
   pub variations_few : length vs ≤ 4095
-  pub tents_number : All (λ v. length v.tents ≡ a) vs
-  pub deltas_number : All (λ v. length v.deltas ≡ p) vs
-  pub short_tents : All (λ v. All ShortTent v.tents) vs
-  pub short_deltas : All (λ v. All ShortDelta v.deltas) vs
-  pub data_fits : All (λ v. length (data_bytes (shared_points (point_sets vs)) v) ≤ 65535) vs
+  pub tents_number : AllByRecursion (λ v. length v.tents ≡ a) vs
+  pub deltas_number : AllByRecursion (λ v. length v.deltas ≡ p) vs
+  pub short_tents : AllByRecursion (λ v. AllByRecursion ShortTent v.tents) vs
+  pub short_deltas : AllByRecursion (λ v. AllByRecursion ShortDelta v.deltas) vs
+  pub data_fits : AllByRecursion (λ v. length (data_bytes (shared_points (point_sets vs)) v) ≤ 65535) vs
   pub headers_fit : 4 + length (headers_bytes ps (shared_points (point_sets vs)) vs) ≤ 65535
-  pub peaks_there : All (PeakThere c ps) vs
+  pub peaks_there : AllByRecursion (PeakThere c ps) vs
 
 -- the slot with these bytes at this place gives the variations back
 pub record SlotRead (c : Checked) (g p : ℕ) (slot : List ℕ) (at : ℕ) (vs : List Variation) : Type 0 where
@@ -47,8 +47,8 @@ there c q (some j) h = h j refl
 
 all_fit :
     (c : Checked) (p : ℕ) (ps : List (List ℤ)) (s : Option Points) (vs : List Variation) →
-    All (λ v. length v.tents ≡ c.axes) vs → All (λ v. length v.deltas ≡ p) vs → All (λ v. All ShortTent v.tents) vs → All (λ v. All ShortDelta v.deltas) vs →
-    All (λ v. length (data_bytes s v) ≤ 65535) vs → All (PeakThere c ps) vs → All (ReadableOne c p ps s) vs
+    AllByRecursion (λ v. length v.tents ≡ c.axes) vs → AllByRecursion (λ v. length v.deltas ≡ p) vs → AllByRecursion (λ v. AllByRecursion ShortTent v.tents) vs → AllByRecursion (λ v. AllByRecursion ShortDelta v.deltas) vs →
+    AllByRecursion (λ v. length (data_bytes s v) ≤ 65535) vs → AllByRecursion (PeakThere c ps) vs → AllByRecursion (ReadableOne c p ps s) vs
 all_fit c p ps s [] t d st sd f k = tt
 all_fit c p ps s (v ∷ vs) t d st sd f k = (
   record { tents_number = t.0; deltas_number = d.0; short_tents = st.0; short_deltas = sd.0; data_fits = f.0; peak_there = there c (peak v) (shared_index ps (peak v)) k.0 },
@@ -65,7 +65,7 @@ past_headers n o hb bs e = front_dropped o (word n ++ (word o ++ hb)) bs (omega 
 
 pub parts_back :
     (c : Checked) (g p : ℕ) (ps : List (List ℤ)) (s : Option Points) (vs : List Variation) (pad : List ℕ) (at : ℕ) →
-    p ≤ 32767 → length vs ≤ 4095 → 4 + length (headers_bytes ps s vs) ≤ 65535 → All (ReadableOne c p ps s) vs → SharedBack p s → Pad pad →
+    p ≤ 32767 → length vs ≤ 4095 → 4 + length (headers_bytes ps s vs) ≤ 65535 → AllByRecursion (ReadableOne c p ps s) vs → SharedBack p s → Pad pad →
     let hb = headers_bytes ps s vs in
     SlotRead c g p (word (shared_flag s + length vs) ++ (word (4 + length hb) ++ (hb ++ (shared_part s ++ (joined (map (data_bytes s) vs) ++ pad))))) at vs
 parts_back c g p ps s vs pad at few_points few fits all-vs shared pads =
@@ -104,7 +104,7 @@ slot_read_back c a g p at ps v vs pad pads h =
     let sb = shared_part s in
     let db = joined (map (data_bytes s) (v ∷ vs)) in
     let regroup : (hb ++ (sb ++ db)) ++ pad ≡ hb ++ (sb ++ (db ++ pad)) = append_assoc hb (sb ++ db) pad ∙ ap (λ (r : List ℕ). hb ++ r) (append_assoc sb db pad) in
-    let tents : All (λ u. length u.tents ≡ c.axes) (v ∷ vs) = All-weaker (λ u. length u.tents ≡ a) (λ u. length u.tents ≡ c.axes) (λ u e. e ∙ h.axes_agree) (v ∷ vs) h.tents_number in
+    let tents : AllByRecursion (λ u. length u.tents ≡ c.axes) (v ∷ vs) = All-weaker (λ u. length u.tents ≡ a) (λ u. length u.tents ≡ c.axes) (λ u e. e ∙ h.axes_agree) (v ∷ vs) h.tents_number in
     subst (λ (r : List ℕ). SlotRead c g p (word (shared_flag s + length (v ∷ vs)) ++ (word (4 + length hb) ++ r)) at (v ∷ vs)) (sym regroup)
     (parts_back c g p ps s (v ∷ vs) pad at h.points_few h.variations_few h.headers_fit
     (all_fit c p ps s (v ∷ vs) tents h.deltas_number h.short_tents h.short_deltas h.data_fits h.peaks_there)

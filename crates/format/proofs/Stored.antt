@@ -2,7 +2,7 @@
 use Rattle.std.proofs.Common.{◌≡◌, ℕ, zero, suc, ◌+◌, ◌<◌, ◌≤◌, Bool, true, false, cond, not, ◌&&◌, ltb, leb, List, [], ◌∷◌, ◌++◌, length, ℤ, sym, refl, ap, ◌∙◌, subst, append-nil, arith}
 use mathlib.Core.Option.{Option}
 use lib.ListN.{length-map}
-use Rattle.std.specs.List.{AllByRecursion as All}
+use Rattle.std.specs.List.{AllByRecursion}
 use Rattle.std.proofs.lemmas.Bool.{lt-ltb, le-leb, and_from, or_parts}
 use Rattle.format.specs.Bytes.{Short, passing}
 use Rattle.format.specs.Account.{Delta, Variation, Declined, ShortDelta}
@@ -82,31 +82,31 @@ stored_points_back d ds r at h = by (stores_all ds) refl
         packed_points_back d (length ds) (required_from 0 ds) r at (omega arith)
         (storable ds h (or_parts (none_required ds) (leb (size_all ds) (size_required ds)) (or_parts (all_required ds) _ e).1).0)
 
-passing_all : (P : Delta → Type 0) (p : Delta → Bool) (ds : List Delta) → All P ds → All P (passing p ds)
+passing_all : (P : Delta → Type 0) (p : Delta → Bool) (ds : List Delta) → AllByRecursion P ds → AllByRecursion P (passing p ds)
 passing_all P p [] h = tt
 passing_all P p (d ∷ ds) h = by (p d) (passing_all P p ds h.1)
   where
-    by : (b : Bool) → All P (passing p ds) → All P (cond b (d ∷ passing p ds) (passing p ds))
+    by : (b : Bool) → AllByRecursion P (passing p ds) → AllByRecursion P (cond b (d ∷ passing p ds) (passing p ds))
     by true i = (h.0, i)
     by false i = i
 
-stored_short : (ds : List Delta) → All ShortDelta ds → All ShortDelta (stored_deltas ds)
+stored_short : (ds : List Delta) → AllByRecursion ShortDelta ds → AllByRecursion ShortDelta (stored_deltas ds)
 stored_short ds h = by (stores_all ds)
   where
-    by : (b : Bool) → All ShortDelta (cond b ds (required_deltas ds))
+    by : (b : Bool) → AllByRecursion ShortDelta (cond b ds (required_deltas ds))
     by true = h
     by false = passing_all ShortDelta (λ d. d.required) ds h
 
-short_xs : (ds : List Delta) → All ShortDelta ds → All Short (xs_of ds)
+short_xs : (ds : List Delta) → AllByRecursion ShortDelta ds → AllByRecursion Short (xs_of ds)
 short_xs [] h = tt
 short_xs (d ∷ ds) h = (h.0.0, short_xs ds h.1)
 
-short_ys : (ds : List Delta) → All ShortDelta ds → All Short (ys_of ds)
+short_ys : (ds : List Delta) → AllByRecursion ShortDelta ds → AllByRecursion Short (ys_of ds)
 short_ys [] h = tt
 short_ys (d ∷ ds) h = (h.0.1, short_ys ds h.1)
 
 coordinates_back :
-    {X : Type 0} (d : ℕ → ℕ → Declined) (f : List ℤ → List ℤ → X) (ds : List Delta) (k at : ℕ) → All ShortDelta ds → k ≡ length ds →
+    {X : Type 0} (d : ℕ → ℕ → Declined) (f : List ℤ → List ℤ → X) (ds : List Delta) (k at : ℕ) → AllByRecursion ShortDelta ds → k ≡ length ds →
     and_then (read_deltas d k (coordinates ds) at) (λ x. and_then (read_deltas d k x.left x.place) (λ y. nothing_left d y.place (f x.value y.value) y.left))
     ≡ found (f (xs_of ds) (ys_of ds))
 coordinates_back d f ds k at h e =
@@ -124,7 +124,7 @@ coordinates_back d f ds k at h e =
 -- an entry, from a variation's data; the points are private, or those that are shared
 pub entry_back :
     (c : Checked) (d : ℕ → ℕ → Declined) (s : Option Points) (shared : Points) (h : Header) (v : Variation) (at : ℕ) →
-    length v.deltas ≤ 32767 → All ShortDelta v.deltas →
+    length v.deltas ≤ 32767 → AllByRecursion ShortDelta v.deltas →
     is_private h.index ≡ not (is_shared s (stored_points v.deltas)) →
     (is_shared s (stored_points v.deltas) ≡ true → shared ≡ stored_points v.deltas) →
     read_entry c d (length v.deltas) shared h (data_bytes s v) at

@@ -1,7 +1,7 @@
 -- The short and the long form of a table: its flags word and its length.
 use Rattle.std.proofs.Common.{◌≡◌, ℕ, ◌+◌, ◌*◌, ◌/◌, ◌<◌, Bool, true, false, cond, List, [], ◌∷◌, ◌++◌, map, length, ℤ, refl, ap, ◌∙◌, arith, length-append}
 use lib.ListN.{length-map}
-use Rattle.std.specs.List.{AllByRecursion as All}
+use Rattle.std.specs.List.{AllByRecursion}
 use Rattle.std.proofs.lemmas.Bool.{le-leb, lt-leb}
 use Rattle.std.proofs.ByRecursion.{All-append}
 use Rattle.format.specs.Bytes.{joined, total}
@@ -73,11 +73,11 @@ module _ (a : ℕ) (gs : List Glyph) where
 
 -- Shared peaks of every set that calls lead to
 
-peaks_of : (a : ℕ) (vs : List Variation) → All (SoundVariation a) vs → All (λ p. length p ≡ a) (map peak vs)
+peaks_of : (a : ℕ) (vs : List Variation) → AllByRecursion (SoundVariation a) vs → AllByRecursion (λ p. length p ≡ a) (map peak vs)
 peaks_of a [] h = tt
 peaks_of a (v ∷ vs) h = (length-map v.tents (λ t. t.peak) ∙ h.0.tents_number, peaks_of a vs h.1)
 
-peaks_of_all : (a : ℕ) (gs : List Glyph) → All (SoundGlyph a) gs → All (λ p. length p ≡ a) (peaks_seen gs)
+peaks_of_all : (a : ℕ) (gs : List Glyph) → AllByRecursion (SoundGlyph a) gs → AllByRecursion (λ p. length p ≡ a) (peaks_seen gs)
 peaks_of_all a [] h = tt
 peaks_of_all a (g ∷ gs) h = All-append (λ (p : List ℤ). length p ≡ a) (map peak g.variations) (peaks_seen gs) (peaks_of a g.variations h.0.each_variation) (peaks_of_all a gs h.1)
 

@@ -1,6 +1,6 @@
 -- A table, whatever its bytes: what reading a glyph finds, and what its faults say.
 use Rattle.std.proofs.Common.{◌≡◌, ℕ, ◌+◌, ◌*◌, ◌<◌, ◌≤◌, Bool, true, false, cond, ltb, List, length, subst, arith}
-use Rattle.std.specs.List.{AllByRecursion as All}
+use Rattle.std.specs.List.{AllByRecursion}
 use Rattle.std.proofs.lemmas.Bool.{ltb-false, or_parts}
 use Rattle.std.proofs.ByRecursion.{All-get_or}
 use Rattle.format.specs.Account.{Declined, Condition, first_of}
@@ -43,7 +43,7 @@ module _ (t : List ℕ) (g : ℕ) where
       )
 
 -- a slot begins inside
-slot_begins : (c : Checked) (g : ℕ) → All Off (listed 0 (c.glyph_count + 1) (offset_condition c)) → g < c.glyph_count → c.data_at + offset_of c g ≤ length c.table
+slot_begins : (c : Checked) (g : ℕ) → AllByRecursion Off (listed 0 (c.glyph_count + 1) (offset_condition c)) → g < c.glyph_count → c.data_at + offset_of c g ≤ length c.table
 slot_begins c g off l =
     let n = c.glyph_count + 1 in
     let z : 0 + g ≡ g = omega arith in

@@ -2,7 +2,7 @@
 use Rattle.std.proofs.Common.{◌≡◌, ℕ, zero, suc, ◌+◌, ◌-◌, ◌*◌, ◌%◌, ◌<◌, ◌≤◌, Bool, true, false, cond, not, eqb, List, [], ◌∷◌, ◌++◌, length, get_or, take, drop, ℤ, sym, refl, ap, ◌∙◌, append_assoc, mul-le-mul, arith, length-append}
 use lib.ListN.{length-map}
 use lib.Seq.{drop-append-add}
-use Rattle.std.specs.List.{AllByRecursion as All}
+use Rattle.std.specs.List.{AllByRecursion}
 use Rattle.format.specs.Bytes.{Short, bits16, signed16, signed_words, joined}
 use Rattle.format.specs.Table.{is_short, even_total, padded}
 use Rattle.format.specs.Streams.{read_words}
@@ -15,8 +15,8 @@ use Rattle.format.proofs.TableFront.{front_axes, front_peaks, front_peaks_at, fr
 -- what a table's fields can hold
 pub record Fitting (a : ℕ) (ps : List (List ℤ)) (bs : List (List ℕ)) : Type 0 where
   pub few_axes : a ≤ 65535
-  pub peaks_of_axes : All (λ p. length p ≡ a) ps
-  pub peaks_short : All (All Short) ps
+  pub peaks_of_axes : AllByRecursion (λ p. length p ≡ a) ps
+  pub peaks_short : AllByRecursion (AllByRecursion Short) ps
   pub few_peaks : length ps ≤ 4095
   pub few_glyphs : length bs ≤ 65535
   pub small_data : even_total bs ≤ 67108864
@@ -38,7 +38,7 @@ checked_of s a ps bs =
 pub offsets_count : (s : Bool) (bs : List (List ℕ)) → length (offsets_of s bs) ≡ length bs + 1
 offsets_count s bs = omega (arith, length_offsets 0 (slots_of s bs), length-map bs (padded s))
 
-offsets_read : (s : Bool) (bs : List (List ℕ)) (r : List ℕ) → All (Held s) (offsets_of s bs) → (l : Bool) (n : ℕ) → l ≡ not s → n ≡ length bs →
+offsets_read : (s : Bool) (bs : List (List ℕ)) (r : List ℕ) → AllByRecursion (Held s) (offsets_of s bs) → (l : Bool) (n : ℕ) → l ≡ not s → n ≡ length bs →
     value_or [] (λ r. r.0) (read_offsets l (n + 1) (offsets_part s bs ++ r)) ≡ offsets_of s bs
 offsets_read s bs r h l n e f =
     let k : length bs + 1 ≡ length (offsets_of s bs) = sym (offsets_count s bs) in
@@ -133,11 +133,11 @@ module _ (s : Bool) (a : ℕ) (ps : List (List ℤ)) (bs : List (List ℕ)) wher
 
 -- Shared peaks
 
-all_short : (zs : List ℤ) → All Short zs → All (λ z. (bits16 z < 65536) × (signed16 (bits16 z) ≡ z)) zs
+all_short : (zs : List ℤ) → AllByRecursion Short zs → AllByRecursion (λ z. (bits16 z < 65536) × (signed16 (bits16 z) ≡ z)) zs
 all_short [] h = tt
 all_short (z ∷ zs) h = ((bits16_fits z h.0, signed16_back z h.0), all_short zs h.1)
 
-peak_read : (a : ℕ) (ps : List (List ℤ)) (r : List ℕ) (i : ℕ) → All (λ p. length p ≡ a) ps → All (All Short) ps → i < length ps →
+peak_read : (a : ℕ) (ps : List (List ℤ)) (r : List ℕ) (i : ℕ) → AllByRecursion (λ p. length p ≡ a) ps → AllByRecursion (AllByRecursion Short) ps → i < length ps →
     value_or [] (λ r. r.0) (read_words signed16 a (drop (2 * (a * i)) (peaks_part ps ++ r))) ≡ get_or ps i []
 peak_read a [] r i e h l = absurd (omega arith)
 peak_read a (p ∷ ps) r zero e h l =

@@ -1,7 +1,7 @@
 -- The account of the calls: what a set holds after a list of calls, by what was asked of it.
 use Rattle.std.specs.Prelude.{ℕ, ◌-◌, ◌*◌, Bool, true, false, cond, not, ◌||◌, List, [], ◌∷◌, ◌++◌, map, length, ℤ, pos, ◌==◌, int_le, nat_eq, nat_le, nat_lt}
 use Rattle.std.proofs.Math.Option.{Option, none, some}
-use Rattle.std.specs.List.{AllByRecursion as All}
+use Rattle.std.specs.List.{AllByRecursion}
 use Rattle.format.specs.Bytes.{Short, any}
 
 -- a tent: the peak on one axis with its bounds, in units of 1/16384
@@ -235,12 +235,12 @@ ShortDelta d = Short d.x × Short d.y
 
 -- those of a variation, and of all in a set
 abbrev pub ShortVariation : Variation → Type 0
-ShortVariation v = All ShortTent v.tents × All ShortDelta v.deltas
+ShortVariation v = AllByRecursion ShortTent v.tents × AllByRecursion ShortDelta v.deltas
 
 abbrev pub ShortSet : List Glyph → Type 0
-ShortSet gs = All (λ g. All ShortVariation g.variations) gs
+ShortSet gs = AllByRecursion (λ g. AllByRecursion ShortVariation g.variations) gs
 
 abbrev pub ShortCall : Call → Type 0
 ShortCall (glyph n) = Unit {0}
-ShortCall (variation ts ds) = All ShortGiven ts × All ShortDelta ds
+ShortCall (variation ts ds) = AllByRecursion ShortGiven ts × AllByRecursion ShortDelta ds
 ShortCall (compile cells sink) = Unit {0}

@@ -1,7 +1,7 @@
 -- What each call answers: which refusal, and what was met before it; what a granted call has met; and which form a table has.
 use Rattle.std.specs.Prelude.{◌≡◌, ℕ, ◌+◌, ◌*◌, ◌/◌, ◌<◌, ◌≤◌, true, false, ◌≢◌, ◌⊎◌, ◌↔◌, List, [], ◌∷◌, ◌++◌, map, length, slice_index}
 use Rattle.std.proofs.Math.Option.{Option, none, some}
-use Rattle.std.specs.List.{AllByRecursion as All}
+use Rattle.std.specs.List.{AllByRecursion}
 use Rattle.format.specs.Bytes.{joined, signed_words, total}
 use Rattle.format.specs.Account.{Delta, Variation, Glyph, Cells, Account, Given, Call, glyph, variation, Declined, set, Condition, first_of, axis_count_conditions, most_axes, last, begun, refusal, opened, after}
 use Rattle.format.specs.Glyphs.{peaks_seen, shared_peaks, shared_count, point_sets, shared_points, data_bytes, headers_bytes}
@@ -16,7 +16,7 @@ pub record AnsweredFirst (cs : List Condition) (d : Declined) : Type 0 where
   pub condition : Condition
   pub later : List Condition
   pub splits : cs ≡ before ++ (condition ∷ later)
-  pub none_before : All (λ c. c.applies ≡ false) before
+  pub none_before : AllByRecursion (λ c. c.applies ≡ false) before
   pub applies_here : condition.applies ≡ true
   pub answers : condition.answer ≡ d
 
@@ -26,7 +26,7 @@ FirstThatApplies = (cs : List Condition) (d : Declined) → first_of cs ≡ some
 
 -- nothing is declined exactly where no condition applies
 abbrev pub NoneApplies : Type 0
-NoneApplies = (cs : List Condition) → first_of cs ≡ none ↔ All (λ c. c.applies ≡ false) cs
+NoneApplies = (cs : List Condition) → first_of cs ≡ none ↔ AllByRecursion (λ c. c.applies ≡ false) cs
 
 -- Refused calls. Each type has a constructor for each number: what applies, and that nothing before it does.
 

@@ -1,7 +1,7 @@
 -- What reading finds lies inside the bytes and is well formed, and each fault says what it is.
 use Rattle.std.specs.Prelude.{◌≡◌, ℕ, ◌+◌, ◌<◌, ◌≤◌, Bool, true, false, cond, ◌||◌, List, ◌++◌, map, length, ℤ, ◌==◌, nat_le}
 use Rattle.std.proofs.Math.Option.{Option, none, some}
-use Rattle.std.specs.List.{AllByRecursion as All}
+use Rattle.std.specs.List.{AllByRecursion}
 use Rattle.format.specs.Account.{Declined, layer_of}
 use Rattle.format.specs.Packed.{Points}
 use Rattle.format.specs.Streams.{Rest, rises, read_deltas, read_points, found, fault}
@@ -56,7 +56,7 @@ pub record LiesInTheSlot (bs : List ℕ) (g p : ℕ) (es : List Entry) : Type 0 
   pub few_points : p ≤ 32767
   pub glyph_is_there : g < word_at bs 12
   pub few_entries : length es ≤ 4095
-  pub entries_well_formed : All (WellFormed (word_at bs 4) p) es
+  pub entries_well_formed : AllByRecursion (WellFormed (word_at bs 4) p) es
 
 -- whatever the bytes, a reading without a fault lies in the slot
 abbrev pub ReadingLiesInTheSlot : Type 0

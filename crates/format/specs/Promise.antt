@@ -1,7 +1,7 @@
 -- The main promise: between the account of the calls and the account of the compiled bytes, every required movement agrees.
 use Rattle.std.specs.Prelude.{◌≡◌, ℕ, ◌≤◌, true, T, List, [], ◌∷◌, ◌++◌, map, length, ℤ}
 use Rattle.std.proofs.Math.Option.{some}
-use Rattle.std.specs.List.{AllByRecursion as All}
+use Rattle.std.specs.List.{AllByRecursion}
 use Rattle.format.specs.Account.{Delta, Variation, Glyph, Cells, Account, Meaning, Call, compile, opened, after, accepted_calls, laid, ShortCall, Declined, most_axes}
 use Rattle.format.specs.Table.{Answer, granted, refused, table_bytes, compile_answer, sink_after, taken}
 use Rattle.format.specs.Streams.{rises}
@@ -46,7 +46,7 @@ pub record Agree (axes : ℕ) (table : List ℕ) (g : Glyph) (p : ℕ) : Type 0 
   pub each_gives_its_variation_back : InStep GivesBack g.variations entries
   -- at every position a point that all variations require moves by the same fraction
   pub required_points_move_alike :
-      (position : List ℤ) → length position ≡ axes → (k : ℕ) → All (RequiredIn k) g.variations →
+      (position : List ℤ) → length position ≡ axes → (k : ℕ) → AllByRecursion (RequiredIn k) g.variations →
       Same (moved_by_calls (λ d. d.x) g.variations k position) (moved_by_bytes (λ m. m.x) entries k position)
       × Same (moved_by_calls (λ d. d.y) g.variations k position) (moved_by_bytes (λ m. m.y) entries k position)
 
@@ -78,7 +78,7 @@ pub record Kept (a : ℕ) (free : Cells) (calls : List Call) (sink : Meaning) (a
 -- Throughout every list of calls from the opening of a set, at every compile among them, whatever the sink
 abbrev pub RequiredMovementsAgree : Type 0
 RequiredMovementsAgree =
-    (a : ℕ) (free : Cells) (calls : List Call) → a ≤ most_axes → All ShortCall calls →
+    (a : ℕ) (free : Cells) (calls : List Call) → a ≤ most_axes → AllByRecursion ShortCall calls →
     (before : List Call) (cells : ℕ) (sink : Meaning) (later : List Call) → calls ≡ before ++ (compile cells sink ∷ later) →
     let answer = compile_answer (after (opened a free) before) cells sink.allowance in
     Kept a free before sink answer (sink_after sink answer (table_after a free before))
@@ -86,7 +86,7 @@ RequiredMovementsAgree =
 -- The same said of a set whose account is k, however it came about by calls
 abbrev pub EveryCompileKeeps : Type 0
 EveryCompileKeeps =
-    (k : Account) (a : ℕ) (free : Cells) (calls : List Call) → a ≤ most_axes → All ShortCall calls → after (opened a free) calls ≡ k →
+    (k : Account) (a : ℕ) (free : Cells) (calls : List Call) → a ≤ most_axes → AllByRecursion ShortCall calls → after (opened a free) calls ≡ k →
     (cells : ℕ) (sink : Meaning) →
     let answer = compile_answer k cells sink.allowance in
     Kept a free calls sink answer (sink_after sink answer (table_after a free calls))

@@ -1,6 +1,6 @@
 -- The shared peaks of a set, from the cells, and their bytes.
 use Rattle.std.proofs.Common.{◌≡◌, ℕ, zero, suc, ◌+◌, ◌*◌, ◌<◌, ◌≤◌, ◌&&◌, ltb, List, [], ◌++◌, map, length, get_or, drop, ℤ, sym, refl, ap, ◌∙◌, subst, mul-suc, arith, length-drop, length-take-le}
-use Rattle.std.specs.List.{AllByRecursion as All}
+use Rattle.std.specs.List.{AllByRecursion}
 use Rattle.std.proofs.lemmas.List.{at_drop_more, at_drop_all}
 use Rattle.std.proofs.lemmas.Bool.{and_parts}
 use Rattle.format.specs.Account.{Glyph}
@@ -45,16 +45,16 @@ module _ (ps : List (List ℤ)) (cells : List CountCell) (held : OrdersHeld ps c
 
 -- How many there are, and how many bytes they have
 
-rows_long : (a : ℕ) (xs : List ℤ) (n : ℕ) → 3 * a * n ≤ length xs → All (λ p. length p ≡ a) (rows a xs n)
+rows_long : (a : ℕ) (xs : List ℤ) (n : ℕ) → 3 * a * n ≤ length xs → AllByRecursion (λ p. length p ≡ a) (rows a xs n)
 rows_long a xs zero h = tt
 rows_long a xs (suc n) h =
     let m : 3 * a * suc n ≡ 3 * a + 3 * a * n = mul-suc (3 * a) n ∙ omega arith in
     let d = length-drop (3 * a) xs in
     (length-take-le a xs (omega arith), rows_long a (drop (3 * a) xs) n (omega arith))
 
-pub each_axis : (s : Set) → All (λ p. length p ≡ (account_of s).axes) (peaks_seen (glyphs_of s))
+pub each_axis : (s : Set) → AllByRecursion (λ p. length p ≡ (account_of s).axes) (peaks_seen (glyphs_of s))
 each_axis s =
-    subst (λ (ps : List (List ℤ)). All (λ p. length p ≡ (account_of s).axes) ps) (peaks_are (stores s) (sound_of s))
+    subst (λ (ps : List (List ℤ)). AllByRecursion (λ p. length p ≡ (account_of s).axes) ps) (peaks_are (stores s) (sound_of s))
     (rows_long s.axes.count s.values.now s.added s.within.2)
 
 pub count_is : (gs : List Glyph) → shared_count (peaks_seen gs) ≡ peak_count gs

@@ -4,7 +4,7 @@ use mathlib.Core.Option.{none, some}
 use Rattle.format.specs.Account.{Declined, first_of}
 use Rattle.format.specs.Streams.{Read, found, fault}
 use Rattle.format.specs.Reader.{checked, table_conditions, read_slot, read_glyph}
-use Rattle.format.specs.Reader.{Entry as Read-entry}
+use Rattle.format.specs.Reader.{Entry as ReadEntry}
 use Rattle.slots.proofs.HeadSteps.{not_both}
 use Rattle.reader.specs.declared.fault.Fault.{Fault}
 use Rattle.reader.specs.declared.table.Table.{Table}
@@ -30,11 +30,11 @@ module _ (bs : List ℕ) (g p : ℕ) where
 
   -- what an answer says of the reading
   abbrev pub Answered : Result Slot Fault → Type 0
-  Answered (Ok s) = (es : List Read-entry) × (read_glyph bs g p ≡ found es) × Walk s es
+  Answered (Ok s) = (es : List ReadEntry) × (read_glyph bs g p ≡ found es) × Walk s es
   Answered (Err f) = read_glyph bs g p ≡ fault (fault_declined f)
 
-  pub opens : (r : Result Slot Fault) → Answered r → (es : List Read-entry) → read_glyph bs g p ≡ found es → (s : Slot) × (r ≡ Ok s) × Walk s es
-  opens (Ok s) a es e = (s, refl, subst (λ (l : List Read-entry). Walk s l) (same_found (read_glyph bs g p) a.0 es a.1 e) a.2)
+  pub opens : (r : Result Slot Fault) → Answered r → (es : List ReadEntry) → read_glyph bs g p ≡ found es → (s : Slot) × (r ≡ Ok s) × Walk s es
+  opens (Ok s) a es e = (s, refl, subst (λ (l : List ReadEntry). Walk s l) (same_found (read_glyph bs g p) a.0 es a.1 e) a.2)
   opens (Err f) a es e = absurd (not_both (read_glyph bs g p) _ _ a e)
 
   pub refuses : (r : Result Slot Fault) → Answered r → (d : Declined) → read_glyph bs g p ≡ fault d → (f : Fault) × (r ≡ Err f) × (fault_declined f ≡ d)

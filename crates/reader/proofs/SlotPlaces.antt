@@ -1,7 +1,7 @@
 -- The slot of a glyph in a table that was checked.
 use Rattle.std.proofs.Common.{◌≡◌, ℕ, zero, suc, ◌+◌, ◌-◌, ◌*◌, ◌<◌, ◌≤◌, Bool, true, false, cond, ◌||◌, ltb, leb, List, length, take, drop, sym, refl, ap, ◌∙◌, subst, ⊎_elim, arith}
 use mathlib.Core.Option.{none, some}
-use Rattle.std.specs.List.{AllByRecursion as All}
+use Rattle.std.specs.List.{AllByRecursion}
 use Rattle.std.proofs.lemmas.Bool.{ltb-false, or_parts, cases_eq, leb-false}
 use Rattle.std.proofs.lemmas.List.{drop-take}
 use Rattle.format.specs.Account.{declined, Condition, first_of}
@@ -13,7 +13,7 @@ use Rattle.reader.specs.declared.table.Head.{Head}
 use Rattle.reader.specs.Tables.{offset_in, says_long, head_of}
 use Rattle.reader.proofs.TableSteps.{offset_is, before, before_next, applies_is}
 
-listed_off : (f : ℕ → Condition) (n i : ℕ) → All Off (listed i n f) → (k : ℕ) → i ≤ k → k < i + n → (f k).applies ≡ false
+listed_off : (f : ℕ → Condition) (n i : ℕ) → AllByRecursion Off (listed i n f) → (k : ℕ) → i ≤ k → k < i + n → (f k).applies ≡ false
 listed_off f zero i o k h l = absurd (omega arith)
 listed_off f (suc n) i o k h l =
     ⊎_elim
@@ -23,7 +23,7 @@ listed_off f (suc n) i o k h l =
 
 -- what the conditions on a table leave
 module _ (bs : List ℕ) (fine : first_of (table_conditions bs) ≡ none) where
-  off : All Off (table_conditions bs)
+  off : AllByRecursion Off (table_conditions bs)
   off = none_applies (table_conditions bs) fine
 
   pub offsets_inside : 20 + cond (says_long bs) 4 2 * (word_at bs 12 + 1) ≤ length bs

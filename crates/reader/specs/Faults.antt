@@ -1,7 +1,7 @@
 -- Number, layer, glyph, variation and place of every fault.
 use Rattle.std.proofs.Math.Option.{none, some}
 use Rattle.format.specs.Account.{Declined, declined, table, slot, entry, stream}
-use Rattle.format.specs.Account.{Layer as Layer-of-fault}
+use Rattle.format.specs.Account.{Layer as LayerOfFault}
 use Rattle.format.specs.Reader.{in_table}
 use Rattle.slots.specs.Faults.{slot_declined}
 use Rattle.reader.specs.declared.fault.TableFault.{TableFault}
@@ -27,7 +27,7 @@ fault_declined (NoGlyph g) = declined 20 (some g) none none
 fault_declined (InSlot g f) = slot_declined g f
 
 -- a layer as the definitions have it
-abbrev pub layer_said : Layer → Layer-of-fault
+abbrev pub layer_said : Layer → LayerOfFault
 layer_said Table = table
 layer_said Slot = slot
 layer_said Entry = entry

@@ -1,6 +1,6 @@
 -- What a walk over moves still gives.
 use Rattle.std.specs.Prelude.{◌≡◌, ℕ, suc, ◌<◌, List, [], ◌∷◌, ℤ, Some, None, Option as Maybe}
-use Rattle.format.specs.Reader.{Move as Read-move, moves_of}
+use Rattle.format.specs.Reader.{Move as ReadMove, moves_of}
 use Rattle.streams.specs.declared.deltas.DeltaCursor.{DeltaCursor}
 use Rattle.streams.specs.Ahead.{Ahead, ends, fails, gives, give_all}
 use Rattle.streams.specs.Deltas.{deltas_ahead}
@@ -33,7 +33,7 @@ DeltaCame vs None c = vs ≡ []
 DeltaCame vs (Some v) c = (tl : List ℤ) × (vs ≡ v ∷ tl) × DeltasLeft c tl
 
 -- the moves that are still to come are those of these points, x and y
-pub record MovesLeft (m : Moves) (ms : List Read-move) : Type 0 where
+pub record MovesLeft (m : Moves) (ms : List ReadMove) : Type 0 where
   pub points : List ℕ
   pub xs : List ℤ
   pub ys : List ℤ
@@ -47,10 +47,10 @@ abbrev pub moves_bound : Moves → ℕ
 moves_bound m = deltas_bound m.xs
 
 -- a move as the definition has it
-abbrev pub move_of : Move → Read-move
+abbrev pub move_of : Move → ReadMove
 move_of m = record { point = m.point; x = m.x; y = m.y }
 
 -- the first of them came, or there is none
-abbrev pub Moved : List Read-move → Maybe Move → Moves → Type 0
+abbrev pub Moved : List ReadMove → Maybe Move → Moves → Type 0
 Moved ms None w = ms ≡ []
-Moved ms (Some m) w = (tl : List Read-move) × (ms ≡ move_of m ∷ tl) × MovesLeft w tl
+Moved ms (Some m) w = (tl : List ReadMove) × (ms ≡ move_of m ∷ tl) × MovesLeft w tl

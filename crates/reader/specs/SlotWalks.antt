@@ -5,7 +5,7 @@ use Rattle.format.specs.Account.{Declined, first_of, implied_start, implied_end}
 use Rattle.format.specs.Packed.{Points}
 use Rattle.format.specs.Streams.{rest, found, fault, read_deltas}
 use Rattle.format.specs.Reader.{Header, checked, header_of, entry_of, points_of, peak_conditions, read_headers, read_entries, read_slot}
-use Rattle.format.specs.Reader.{Entry as Read-entry}
+use Rattle.format.specs.Reader.{Entry as ReadEntry}
 use Rattle.slots.specs.Heads.{no_peak, HeadRead}
 use Rattle.reader.specs.declared.fault.Fault.{Fault}
 use Rattle.reader.specs.declared.table.Table.{Table}
@@ -19,7 +19,7 @@ use Rattle.reader.specs.Tuples.{Holds}
 use Rattle.reader.specs.PointWalks.{ListRead}
 
 -- these entries are still to come
-pub record Walk (s : Slot) (es : List Read-entry) : Type 0 where
+pub record Walk (s : Slot) (es : List ReadEntry) : Type 0 where
   pub sound : Sound s.table
   pub slot_end : ℕ
   pub in_table : s.bytes.now ≡ take slot_end s.table.bytes.now
@@ -45,7 +45,7 @@ entries_bound s = s.count - s.i
 
 -- the slot of glyph g is read, and its entries are those of the walk
 pub record SlotOpened (t : Table) (g p : ℕ) (s : Slot) : Type 0 where
-  pub entries : List Read-entry
+  pub entries : List ReadEntry
   pub is_read : read_slot (checked t.bytes.now) g p ≡ found entries
   pub walk : Walk s entries
 
@@ -59,7 +59,7 @@ abbrev pub DeltasRead : List ℕ → ℕ → ℕ → List ℤ → Type 0
 DeltasRead bs at k vs = (left : List ℕ) × (past : ℕ) × ((d : ℕ → ℕ → Declined) → read_deltas d k (drop at bs) at ≡ found (rest vs left past))
 
 -- an entry shows what the definition gives: its header, points, x and y are those of the definition's entry
-pub record Shows (e : Entry) (x : Read-entry) : Type 0 where
+pub record Shows (e : Entry) (x : ReadEntry) : Type 0 where
   pub sound : Sound e.table
   pub slot_end : ℕ
   pub in_table : e.slot.now ≡ take slot_end e.table.bytes.now
@@ -75,12 +75,12 @@ pub record Shows (e : Entry) (x : Read-entry) : Type 0 where
   pub is_entry : x ≡ entry_of (checked e.table.bytes.now) (header_of e.table.head.axes header e.head.size e.head.index head.values) e.p set xs ys
 
 -- the first of the entries came, and the others are still to come; or there is none, now and later
-abbrev pub Walked : List Read-entry → Maybe Entry → Slot → Type 0
+abbrev pub Walked : List ReadEntry → Maybe Entry → Slot → Type 0
 Walked es None s = (es ≡ []) × Walk s es
-Walked es (Some e) s = (x : Read-entry) × (xs : List Read-entry) × (es ≡ x ∷ xs) × Shows e x × Walk s xs
+Walked es (Some e) s = (x : ReadEntry) × (xs : List ReadEntry) × (es ≡ x ∷ xs) × Shows e x × Walk s xs
 
 -- the stored region holds the bounds, or they are the implied ones
-abbrev pub Bounds : Table → Read-entry → Maybe Region → Type 0
+abbrev pub Bounds : Table → ReadEntry → Maybe Region → Type 0
 Bounds t x None = (x.start ≡ map implied_start x.peak) × (x.end ≡ map implied_end x.peak)
 Bounds t x (Some r) = Holds t r.start x.start × Holds t r.end x.end
 

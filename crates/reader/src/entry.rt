@@ -1,6 +1,6 @@
 // One entry of a slot: its peak, its region and its moves.
 ghost use Rattle.std.specs.Prelude.{◌≡◌, is_some};
-ghost use Rattle.format.specs.Reader.{Entry as Read-entry, is_regional};
+ghost use Rattle.format.specs.Reader.{Entry as ReadEntry, is_regional};
 ghost use Rattle.reader.specs.Tuples.{Holds};
 ghost use Rattle.reader.specs.MoveWalks.{MovesLeft};
 ghost use Rattle.reader.specs.SlotWalks.{Shows, Bounds};
@@ -28,7 +28,7 @@ pub struct Entry<'a> {
 impl<'a> Entry<'a> {
     // The peak, in the header or among the shared ones.
     pub fn peak(&self) -> Tuple<'a>
-        ensures { (x : Read-entry) → Shows self.now x → Holds self.now.table result x.peak }
+        ensures { (x : ReadEntry) → Shows self.now x → Holds self.now.table result x.peak }
     {
         let axes = self.table.head.axes;
         if is_embedded(self.head.index) {
@@ -46,7 +46,7 @@ impl<'a> Entry<'a> {
     // The starts and ends, if a region is stored; otherwise `implied_start` and `implied_end` of the peak give them.
     pub fn region(&self) -> Option<Region<'a>>
         ensures stored { is_some result ≡ is_regional self.now.head.index }
-        ensures bounds { (x : Read-entry) → Shows self.now x → Bounds self.now.table x result }
+        ensures bounds { (x : ReadEntry) → Shows self.now x → Bounds self.now.table x result }
     {
         if !is_regional(self.head.index) {
             return None;
@@ -62,7 +62,7 @@ impl<'a> Entry<'a> {
 
     // The moves, one for each point.
     pub fn moves(&self) -> Moves<'a>
-        ensures { (x : Read-entry) → Shows self.now x → MovesLeft result x.moves }
+        ensures { (x : ReadEntry) → Shows self.now x → MovesLeft result x.moves }
     {
         Moves {
             points: PointWalk::new(self.list, self.p),

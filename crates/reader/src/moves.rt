@@ -1,6 +1,6 @@
 // The moves of an entry: its points with x and y in step.
 ghost use Rattle.std.specs.Prelude.{◌≡◌, ℕ, ◌<◌, List, ℤ};
-ghost use Rattle.format.specs.Reader.{Move as Read-move};
+ghost use Rattle.format.specs.Reader.{Move as ReadMove};
 ghost use Rattle.reader.specs.MoveWalks.{DeltasLeft, DeltaCame, Falls, deltas_bound, MovesLeft, Moved, moves_bound};
 
 use crate::points::PointWalk;
@@ -36,7 +36,7 @@ fn next_delta<'a>(cursor: &mut DeltaCursor<'a>) -> Option<i16>
 impl<'a> Moves<'a> {
     // The next move, if one is left.
     pub fn next(&mut self) -> Option<Move>
-        ensures moved { (ms : List Read-move) → MovesLeft self.old ms → Moved ms result self.new }
+        ensures moved { (ms : List ReadMove) → MovesLeft self.old ms → Moved ms result self.new }
         ensures falls { Falls result (moves_bound self.old) (moves_bound self.new) }
     {
         let point = self.points.next()?;

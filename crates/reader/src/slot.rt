@@ -1,7 +1,7 @@
 // The slot of a glyph, and the walk over its entries.
 ghost use Rattle.std.specs.Prelude.{◌≡◌, ◌+◌, ◌*◌, ◌≤◌, ◌||◌, List, length, take, if◌then◌else◌, Ok, Err, nat_le, nat_lt};
 ghost use Rattle.format.specs.Account.{Declined};
-ghost use Rattle.format.specs.Reader.{Entry as Read-entry, read_glyph};
+ghost use Rattle.format.specs.Reader.{Entry as ReadEntry, read_glyph};
 ghost use Rattle.format.specs.Streams.{found, fault};
 ghost use Rattle.reader.specs.Faults.{fault_declined};
 ghost use Rattle.reader.specs.Tables.{Sound, offset_in};
@@ -111,14 +111,14 @@ impl<'a> Slot<'a> {
     // How many entries are still to come.
     pub fn len(&self) -> u16
         ensures bound { result ≡ entries_bound self.now }
-        ensures entries { (es : List Read-entry) → Walk self.now es → result ≡ length es }
+        ensures entries { (es : List ReadEntry) → Walk self.now es → result ≡ length es }
     {
         self.count.saturating_sub(self.i)
     }
 
     // The next entry, if one is left.
     pub fn next(&mut self) -> Option<Entry<'a>>
-        ensures walked { (es : List Read-entry) → Walk self.old es → Walked es result self.new }
+        ensures walked { (es : List ReadEntry) → Walk self.old es → Walked es result self.new }
         ensures falls { Falls result (entries_bound self.old) (entries_bound self.new) }
     {
         if self.i >= self.count {
@@ -156,7 +156,7 @@ impl<'a> Slot<'a> {
 
 // The slot of a glyph that has p points, in a table that was not checked yet.
 pub fn open_glyph<'a>(bytes: &'a [u8], glyph: u16, p: u16) -> Result<Slot<'a>, Fault>
-    ensures found { (es : List Read-entry) → read_glyph bytes.now glyph p ≡ found es → (s : Slot) × (result ≡ Ok s) × Walk s es }
+    ensures found { (es : List ReadEntry) → read_glyph bytes.now glyph p ≡ found es → (s : Slot) × (result ≡ Ok s) × Walk s es }
     ensures refused { (d : Declined) → read_glyph bytes.now glyph p ≡ fault d → (f : Fault) × (result ≡ Err f) × (fault_declined f ≡ d) }
 {
     let table = Table::check(bytes)?;

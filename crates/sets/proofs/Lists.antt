@@ -1,6 +1,6 @@
 -- Laws of the lists that an account is made of.
 use Rattle.std.proofs.Common.{◌≡◌, ℕ, zero, suc, ◌+◌, ◌<◌, ◌≤◌, Bool, true, false, eqb, ◌≢◌, List, [], ◌∷◌, ◌++◌, length, get_or, take, drop, set, sym, refl, ap, ◌∙◌, inl, inr, le_of_suc-le-suc, not-suc-le-zero, arith, get_or-set_other, get_or-set_same, drop-drop}
-use Rattle.std.specs.List.{AllByRecursion as All}
+use Rattle.std.specs.List.{AllByRecursion}
 use Rattle.std.proofs.lemmas.Bool.{cases_eq, eq-eqb, ne_eqb, or_right, or_from, and_parts, and_from}
 use Rattle.format.specs.Account.{Glyph, Variation, begun}
 use Rattle.format.specs.Bytes.{all}
@@ -70,10 +70,10 @@ all_append p [] ys h k = k
 all_append p (x ∷ xs) ys h k = let q = and_parts (p x) (all p xs) h in and_from _ _ q.0 (all_append p xs ys q.1 k)
 
 -- a test, and what it tests
-pub all_true : {X : Type 0} (P : X → Type 0) (p : X → Bool) → ((x : X) → P x → p x ≡ true) → (xs : List X) → All P xs → all p xs ≡ true
+pub all_true : {X : Type 0} (P : X → Type 0) (p : X → Bool) → ((x : X) → P x → p x ≡ true) → (xs : List X) → AllByRecursion P xs → all p xs ≡ true
 all_true P p f [] h = refl
 all_true P p f (x ∷ xs) h = and_from _ _ (f x h.0) (all_true P p f xs h.1)
 
-pub true_all : {X : Type 0} (P : X → Type 0) (p : X → Bool) → ((x : X) → p x ≡ true → P x) → (xs : List X) → all p xs ≡ true → All P xs
+pub true_all : {X : Type 0} (P : X → Type 0) (p : X → Bool) → ((x : X) → p x ≡ true → P x) → (xs : List X) → all p xs ≡ true → AllByRecursion P xs
 true_all P p f [] h = tt
 true_all P p f (x ∷ xs) h = let q = and_parts (p x) (all p xs) h in (f x q.0, true_all P p f xs q.1)

@@ -1,6 +1,6 @@
 -- The values that a set holds are signed 16-bit ones.
 use Rattle.std.proofs.Common.{◌≡◌, ℕ, ◌*◌, true, List, [], ◌∷◌, take, drop, ℤ, subst}
-use Rattle.std.specs.List.{AllByRecursion as All}
+use Rattle.std.specs.List.{AllByRecursion}
 use Rattle.std.proofs.ByRecursion.{All-take, All-drop, All-map}
 use Rattle.std.proofs.lemmas.Bool.{ltb-true, lt-ltb, and_parts, and_from}
 use Rattle.format.specs.Account.{Variation, ShortTent, ShortDelta, ShortVariation, ShortSet}
@@ -18,25 +18,25 @@ abbrev ShortCell : GlyphDelta → Type 0
 ShortCell d = ShortDelta (delta_of d)
 
 -- the tests say what they test
-pub values_tested : (xs : List ℤ) → All Short xs → all short_value xs ≡ true
+pub values_tested : (xs : List ℤ) → AllByRecursion Short xs → all short_value xs ≡ true
 values_tested xs h = all_true Short short_value (λ z q. lt-ltb _ _ q) xs h
 
-pub deltas_tested : (ds : List GlyphDelta) → All (λ d. ShortDelta (delta_of d)) ds → all short_delta ds ≡ true
+pub deltas_tested : (ds : List GlyphDelta) → AllByRecursion (λ d. ShortDelta (delta_of d)) ds → all short_delta ds ≡ true
 deltas_tested ds h = all_true ShortCell short_delta (λ d q. and_from _ _ (lt-ltb _ _ q.0) (lt-ltb _ _ q.1)) ds h
 
-tested_values : (xs : List ℤ) → all short_value xs ≡ true → All Short xs
+tested_values : (xs : List ℤ) → all short_value xs ≡ true → AllByRecursion Short xs
 tested_values xs h = true_all Short short_value (λ z q. ltb-true _ _ q) xs h
 
-tested_deltas : (ds : List GlyphDelta) → all short_delta ds ≡ true → All ShortCell ds
+tested_deltas : (ds : List GlyphDelta) → all short_delta ds ≡ true → AllByRecursion ShortCell ds
 tested_deltas ds h = true_all ShortCell short_delta (λ d q. let p = and_parts (short_value d.x) (short_value d.y) q in (ltb-true _ _ p.0, ltb-true _ _ p.1)) ds h
 
-short_tents : (ps ss es : List ℤ) → All Short ps → All Short ss → All Short es → All ShortTent (tents_of ps ss es)
+short_tents : (ps ss es : List ℤ) → AllByRecursion Short ps → AllByRecursion Short ss → AllByRecursion Short es → AllByRecursion ShortTent (tents_of ps ss es)
 short_tents [] ss es p q r = tt
 short_tents (x ∷ ps) [] es p q r = tt
 short_tents (x ∷ ps) (y ∷ ss) [] p q r = tt
 short_tents (x ∷ ps) (y ∷ ss) (z ∷ es) p q r = ((p.0, q.0, r.0), short_tents ps ss es p.1 q.1 r.1)
 
-short_deal : (a : ℕ) (cs : List VariationCell) (xs : List ℤ) (ds : List GlyphDelta) → All Short xs → All ShortCell ds → All ShortVariation (deal a cs xs ds)
+short_deal : (a : ℕ) (cs : List VariationCell) (xs : List ℤ) (ds : List GlyphDelta) → AllByRecursion Short xs → AllByRecursion ShortCell ds → AllByRecursion ShortVariation (deal a cs xs ds)
 short_deal a [] xs ds h k = tt
 short_deal a (c ∷ cs) xs ds h k = (
   (
@@ -46,12 +46,12 @@ short_deal a (c ∷ cs) xs ds h k = (
   short_deal a cs (drop (3 * a) xs) (drop c.deltas ds) (All-drop Short (3 * a) xs h) (All-drop ShortCell c.deltas ds k),
 )
 
-short_groups : (cs : List GlyphCell) (vs : List Variation) → All ShortVariation vs → ShortSet (groups cs vs)
+short_groups : (cs : List GlyphCell) (vs : List Variation) → AllByRecursion ShortVariation vs → ShortSet (groups cs vs)
 short_groups [] vs h = tt
 short_groups (c ∷ cs) vs h = (All-take ShortVariation c.variations vs h, short_groups cs (drop c.variations vs) (All-drop ShortVariation c.variations vs h))
 
 pub short_set : (s : Stores) → Sound s → ShortSet (account_in s).glyphs
 short_set s h =
     short_groups (take s.begun s.glyphs) (dealt s)
-    (subst (λ (vs : List Variation). All ShortVariation vs) (dealt_in_use s h)
+    (subst (λ (vs : List Variation). AllByRecursion ShortVariation vs) (dealt_in_use s h)
     (short_deal s.axes (take s.added s.variations) (take (3 * s.axes * s.added) s.values) (take s.moved s.deltas) (tested_values _ h.short.0) (tested_deltas _ h.short.1)))

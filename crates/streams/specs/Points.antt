@@ -4,7 +4,7 @@ use Rattle.std.proofs.Math.Option.{Option, none, some}
 use Rattle.format.specs.Account.{Declined}
 use Rattle.format.specs.Bytes.{pair}
 use Rattle.format.specs.Packed.{every}
-use Rattle.format.specs.Packed.{Points as Point-set}
+use Rattle.format.specs.Packed.{Points as PointSetRead}
 use Rattle.format.specs.Streams.{Rest, rest, Read, found, fault, read_gaps, points_after, last_of, rises, point_runs, counted_points, read_points}
 use Rattle.format.specs.Reader.{points_of}
 use Rattle.streams.specs.declared.fault.StreamFault.{StreamFault}
@@ -106,12 +106,12 @@ count_in [] at = Err (Points at)
 count_in (c ∷ r) at = cond (nat_lt c 128) (Ok (counted c (at + 1))) (two_byte_count c r at)
 
 -- the points by their count, 0 for every point
-abbrev pub by_count : (ℕ → ℕ → Declined) → ℕ → List ℕ → ℕ → ℕ → Read (Rest Point-set)
+abbrev pub by_count : (ℕ → ℕ → Declined) → ℕ → List ℕ → ℕ → ℕ → Read (Rest PointSetRead)
 by_count d p bs zero past = found (rest every (drop past bs) past)
 by_count d p bs (suc n) past = counted_points d p (suc n) (drop past bs) past
 
 -- what is read after the count was
-abbrev pub after_count : (ℕ → ℕ → Declined) → ℕ → List ℕ → Result PointCount StreamFault → Read (Rest Point-set)
+abbrev pub after_count : (ℕ → ℕ → Declined) → ℕ → List ℕ → Result PointCount StreamFault → Read (Rest PointSetRead)
 after_count d p bs (Ok h) = by_count d p bs h.count h.past
 after_count d p bs (Err f) = fault (stream_declined d f)
 
@@ -123,7 +123,7 @@ PastRuns bs at p k (Err f) = (d : ℕ → ℕ → Declined) → point_runs d k p
 
 -- how many points a set of points has, and the place past it
 pub record SetRead (bs : List ℕ) (at p : ℕ) (s : PointSet) : Type 0 where
-  pub set : Point-set
+  pub set : PointSetRead
   pub is_read : (d : ℕ → ℕ → Declined) → read_points d p (drop at bs) at ≡ found (rest set (drop s.past bs) s.past)
   pub number : length (points_of p set) ≡ s.size
 

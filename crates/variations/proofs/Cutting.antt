@@ -1,7 +1,7 @@
 -- The cut of a list, one run at a time.
 use Rattle.std.proofs.Common.{◌≡◌, ℕ, zero, suc, ◌+◌, ◌-◌, ◌<◌, ◌≤◌, true, false, not, ◌&&◌, ◌||◌, List, [], ◌∷◌, length, take, drop, ℤ, pos, negsuc, Some, Option, sym, refl, ap, ◌∙◌, arith, length-drop}
 use lib.Signed.{mag}
-use Rattle.std.specs.List.{AllByRecursion as All}
+use Rattle.std.specs.List.{AllByRecursion}
 use Rattle.std.proofs.lemmas.Bool.{cond_both, cond-true, cond-false, true≢false}
 use Rattle.std.proofs.lemmas.Int.{ints}
 use Rattle.std.proofs.lemmas.Bool.Decides.{nat_tests}
@@ -115,14 +115,14 @@ stays Words Zeros z o h s = tt
 stays Words Bytes z o h s = tt
 stays Words Words z o h s = tt
 
-reach_holds : (k : DeltaKind) (m : ℕ) (zs : List ℤ) → All (Holds k) (take (reach k m zs) zs)
+reach_holds : (k : DeltaKind) (m : ℕ) (zs : List ℤ) → AllByRecursion (Holds k) (take (reach k m zs) zs)
 reach_holds k m [] = tt
 reach_holds k zero (z ∷ zs) = tt
 reach_holds k (suc m) (z ∷ zs) =
-    cond_both (stops k (kind_of z) (first_kind zs)) 0 (suc (reach k m zs)) (λ n. All (Holds k) (take n (z ∷ zs))) (λ _. tt)
+    cond_both (stops k (kind_of z) (first_kind zs)) 0 (suc (reach k m zs)) (λ n. AllByRecursion (Holds k) (take n (z ∷ zs))) (λ _. tt)
     (λ s. (stays k (kind_of z) z (first_kind zs) (kind_holds z) s, reach_holds k m zs))
 
-pub run_holds : (z : ℤ) (zs : List ℤ) → All (Holds (kind_of z)) (z ∷ take (reach (kind_of z) 63 zs) zs)
+pub run_holds : (z : ℤ) (zs : List ℤ) → AllByRecursion (Holds (kind_of z)) (z ∷ take (reach (kind_of z) 63 zs) zs)
 run_holds z zs = (kind_holds z, reach_holds (kind_of z) 63 zs)
 
 -- more runs allowed change nothing

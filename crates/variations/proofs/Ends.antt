@@ -1,6 +1,6 @@
 -- The loop that looks for the end of a run.
 use Rattle.std.proofs.Common.{◌≡◌, ℕ, suc, ◌+◌, ◌<◌, ◌≤◌, Bool, ◌∷◌, length, take, drop, ℤ, Some, None, Option, sym, refl, ap, ◌∙◌, subst, arith}
-use Rattle.std.specs.List.{AllByRecursion as All}
+use Rattle.std.specs.List.{AllByRecursion}
 use Rattle.variations.specs.declared.deltas.PackedDeltas.{PackedDeltas}
 use Rattle.variations.specs.declared.runs.DeltaKind.{DeltaKind}
 use Rattle.variations.specs.Deltas.{values_from, Stepped}
@@ -46,6 +46,6 @@ run_at c p second n after z k s ek en ea pace inside =
       paced = omega (arith, s.0);
       within = inside;
       rest = rw (b, m) (sym ea');
-      fit = subst (λ j. All (Holds j) (take n (values_from c p))) (sym ek) (rw (b, m) (run_holds z zs));
+      fit = subst (λ j. AllByRecursion (Holds j) (take n (values_from c p))) (sym ek) (rw (b, m) (run_holds z zs));
       first = rw (b, m, ek, ea') (cut_step z zs);
     }

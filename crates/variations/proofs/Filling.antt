@@ -1,7 +1,7 @@
 -- A run put into a batch, value by value.
 use Rattle.std.proofs.Common.{◌≡◌, ℕ, ◌+◌, ◌-◌, ◌*◌, ◌%◌, ◌<◌, ◌≤◌, List, [], ◌∷◌, ◌++◌, map, length, get_or, take, drop, set, ℤ, pos, negsuc, sym, refl, ap, ◌∙◌, subst, append_assoc, append-nil, arith, length-drop, length-set, length-take, w16, of_z}
 use lib.Signed.{mag}
-use Rattle.std.specs.List.{AllByRecursion as All}
+use Rattle.std.specs.List.{AllByRecursion}
 use Rattle.std.proofs.ByRecursion.{All-get_or}
 use Rattle.std.proofs.lemmas.List.{take_more_set, take_more, drop_more, get_or-take}
 use Rattle.format.specs.Bytes.{bits8, bits16, word, joined}
@@ -67,7 +67,7 @@ pub joined_push : {X : Type 0} (f : X → List ℕ) (xs : List X) (x : X) → jo
 joined_push f [] x = append-nil (f x)
 joined_push f (y ∷ xs) x = ap (λ l. f y ++ l) (joined_push f xs x) ∙ sym (append_assoc (f y) (joined (map f xs)) (f x))
 
-pub run_more : (k : DeltaKind) (count i at at' : ℕ) (zs ys : List ℤ) (v : ℤ) (ctl : ℕ) (bs bs' : List ℕ) → i < count → drop i zs ≡ v ∷ ys → All (Holds k) (take count zs) →
+pub run_more : (k : DeltaKind) (count i at at' : ℕ) (zs ys : List ℤ) (v : ℤ) (ctl : ℕ) (bs bs' : List ℕ) → i < count → drop i zs ≡ v ∷ ys → AllByRecursion (Holds k) (take count zs) →
     take at bs ≡ ctl ∷ joined (map (value_bytes (meant k)) (take i zs)) → take at' bs' ≡ take at bs ++ coded k v →
     take at' bs' ≡ ctl ∷ joined (map (value_bytes (meant k)) (take (i + 1) zs))
 run_more k count i at at' zs ys v ctl bs bs' h e fit t t' =

@@ -1,6 +1,6 @@
 -- Gaps point by point, and their cut run by run.
 use Rattle.std.proofs.Common.{◌≡◌, ℕ, zero, suc, ◌+◌, ◌-◌, ◌<◌, ◌≤◌, Bool, true, false, cond, not, List, [], ◌∷◌, length, get_or, take, drop, Some, sym, refl, ap, ◌∙◌, subst, add-one, arith, length-drop}
-use Rattle.std.specs.List.{AllByRecursion as All}
+use Rattle.std.specs.List.{AllByRecursion}
 use Rattle.std.proofs.lemmas.Bool.{cond_both, cond-true, cond-false}
 use Rattle.std.proofs.lemmas.List.{drop_more, drop_all}
 use Rattle.format.specs.Packed.{gaps_after, is_wide, same_class, class_extent, GapRun, cut_gaps_at_most}
@@ -45,11 +45,11 @@ class_within w zero (g ∷ gs) = omega arith
 class_within w (suc n) (g ∷ gs) =
     cond_both (same_class w g) (suc (in_class w n gs)) 0 (λ m. m ≤ suc (length gs)) (λ _. omega (arith, class_within w n gs)) (λ _. omega arith)
 
-class_holds : (w : Bool) (n : ℕ) (gs : List ℕ) → All (λ g. same_class w g ≡ true) (take (in_class w n gs) gs)
+class_holds : (w : Bool) (n : ℕ) (gs : List ℕ) → AllByRecursion (λ g. same_class w g ≡ true) (take (in_class w n gs) gs)
 class_holds w n [] = tt
 class_holds w zero (g ∷ gs) = tt
 class_holds w (suc n) (g ∷ gs) =
-    cond_both (same_class w g) (suc (in_class w n gs)) 0 (λ m. All (λ g. same_class w g ≡ true) (take m (g ∷ gs))) (λ s. (s, class_holds w n gs)) (λ _. tt)
+    cond_both (same_class w g) (suc (in_class w n gs)) 0 (λ m. AllByRecursion (λ g. same_class w g ≡ true) (take m (g ∷ gs))) (λ s. (s, class_holds w n gs)) (λ _. tt)
 
 own_class : (b : Bool) (g : ℕ) → is_wide g ≡ b → same_class b g ≡ true
 own_class true g e = e
@@ -111,7 +111,7 @@ gap_run_at ds p second n after g w s ek en ea pace inside =
       paced = omega (arith, s.0);
       within = inside;
       rest = rw (b, m) (sym ea');
-      fit = subst (λ j. All (λ x. same_class j x ≡ true) (take n (gaps_from ds p))) (sym ek) (rw (b, m) (own_class (is_wide g) g refl, class_holds (is_wide g) 127 gs));
+      fit = subst (λ j. AllByRecursion (λ x. same_class j x ≡ true) (take n (gaps_from ds p))) (sym ek) (rw (b, m) (own_class (is_wide g) g refl, class_holds (is_wide g) 127 gs));
       first = rw (b, m, ek, ea') (gaps_cut_step g gs);
     }
 

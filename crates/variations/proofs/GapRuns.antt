@@ -1,6 +1,6 @@
 -- The bytes of packed points, run by run.
 use Rattle.std.proofs.Common.{◌≡◌, ℕ, suc, ◌+◌, ◌-◌, ◌*◌, ◌<◌, ◌≤◌, min, Bool, true, false, List, [], ◌∷◌, ◌++◌, map, length, get_or, take, drop, sym, refl, ap, ◌∙◌, subst, arith, length-append, length-drop, length-take}
-use Rattle.std.specs.List.{AllByRecursion as All}
+use Rattle.std.specs.List.{AllByRecursion}
 use Rattle.std.proofs.ByRecursion.{All-get_or}
 use Rattle.std.proofs.lemmas.List.{take_more, drop_more, get_or-take}
 use Rattle.std.proofs.lemmas.Bool.{not-true, ltb-false}
@@ -98,7 +98,7 @@ next_gap_value gs hs i v e =
     let g : get_or gs i v ≡ v = cc in
     record { inside = h; value = g; front = cc; back = cc }
 
-pub gap_run_more : (w : Bool) (count i at at' : ℕ) (gs hs : List ℕ) (v : ℕ) (ctl : ℕ) (bs bs' : List ℕ) → i < count → drop i gs ≡ v ∷ hs → All (λ g. same_class w g ≡ true) (take count gs) →
+pub gap_run_more : (w : Bool) (count i at at' : ℕ) (gs hs : List ℕ) (v : ℕ) (ctl : ℕ) (bs bs' : List ℕ) → i < count → drop i gs ≡ v ∷ hs → AllByRecursion (λ g. same_class w g ≡ true) (take count gs) →
     take at bs ≡ ctl ∷ joined (map (gap_bytes w) (take i gs)) → take at' bs' ≡ take at bs ++ gap_coded w v →
     take at' bs' ≡ ctl ∷ joined (map (gap_bytes w) (take (i + 1) gs))
 gap_run_more w count i at at' gs hs v ctl bs bs' h e fit t t' =

@@ -1,6 +1,6 @@
 -- The gaps between required points, and the run of them at a place.
 use Rattle.std.specs.Prelude.{◌≡◌, ℕ, zero, suc, ◌+◌, ◌-◌, ◌<◌, ◌≤◌, Bool, true, cond, List, [], ◌∷◌, map, length, take, drop, Some, None, Option}
-use Rattle.std.specs.List.{AllByRecursion as All}
+use Rattle.std.specs.List.{AllByRecursion}
 use Rattle.format.specs.Bytes.{joined}
 use Rattle.format.specs.Packed.{gaps_after, same_class, GapRun, gap_run_bytes, cut_gaps_at_most}
 use Rattle.format.specs.Glyphs.{required_from}
@@ -39,7 +39,7 @@ pub record GapRunAt (ds : List GlyphDelta) (p : ℕ) (r : PointRun) : Type 0 whe
   pub paced : p + r.count ≤ r.after
   pub within : r.after ≤ length ds
   pub rest : drop r.count (gaps_from ds p) ≡ gaps_from ds r.after
-  pub fit : All (λ g. same_class r.wide g ≡ true) (take r.count (gaps_from ds p))
+  pub fit : AllByRecursion (λ g. same_class r.wide g ≡ true) (take r.count (gaps_from ds p))
   pub first : cut_gaps (gaps_from ds p) ≡ gap_run_of r.wide (take r.count (gaps_from ds p)) ∷ cut_gaps (gaps_from ds r.after)
 
 abbrev pub NextGapRun : List GlyphDelta → ℕ → Option PointRun → Type 0

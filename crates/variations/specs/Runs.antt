@@ -1,7 +1,7 @@
 -- The run that a column has at a place.
 use Rattle.std.specs.Prelude.{◌≡◌, ℕ, ◌+◌, ◌<◌, ◌≤◌, List, [], ◌∷◌, length, take, drop, ℤ, pos, Some, None, Option}
 use Rattle.std.specs.Int.Signed.{mag}
-use Rattle.std.specs.List.{AllByRecursion as All}
+use Rattle.std.specs.List.{AllByRecursion}
 use Rattle.format.specs.Packed.{Run, cut}
 use Rattle.variations.specs.declared.runs.DeltaKind.{DeltaKind}
 use Rattle.variations.specs.declared.runs.DeltaKind.TheVariants.{Zeros, Bytes, Words}
@@ -27,7 +27,7 @@ pub record RunAt (c : PackedDeltas) (p : ℕ) (r : DeltaRun) : Type 0 where
   pub paced : p + r.count ≤ r.after
   pub within : r.after ≤ length c.deltas.now
   pub rest : drop r.count (values_from c p) ≡ values_from c r.after
-  pub fit : All (Holds r.kind) (take r.count (values_from c p))
+  pub fit : AllByRecursion (Holds r.kind) (take r.count (values_from c p))
   pub first : cut (values_from c p) ≡ run_of r.kind (take r.count (values_from c p)) ∷ cut (values_from c r.after)
 
 abbrev pub NextRun : PackedDeltas → ℕ → Option DeltaRun → Type 0

@@ -1,7 +1,7 @@
 // How a variation is tested, and put into the stores.
 ghost use Rattle.std.specs.Prelude.{◌≡◌, ◌+◌, ◌*◌, ◌<◌, ◌≤◌, ◌||◌, map, length, OnOk, nat_lt};
 ghost use Rattle.std.proofs.Math.Seq.{paste};
-ghost use Rattle.std.specs.List.{AllByRecursion as All};
+ghost use Rattle.std.specs.List.{AllByRecursion};
 ghost use Rattle.format.specs.Account.{refusal, next, accepted, other_count, ShortDelta};
 ghost use Rattle.format.specs.Bytes.{Short};
 ghost use Rattle.variations.specs.Deltas.{delta_of};
@@ -40,7 +40,7 @@ impl<'a> Set<'a> {
         requires room { at + length tents.now ≤ length self.old.values.now }
         ensures len { length self.new.values.now ≡ length self.old.values.now }
         ensures is { stores self.new ≡ with_values (stores self.old) (paste self.old.values.now at (map (part_of which) tents.now) (length tents.now)) }
-        ensures short { All Short (map (part_of which) tents.now) }
+        ensures short { AllByRecursion Short (map (part_of which) tents.now) }
     {
         for i in 0..tents.len() {
             self.values[at + i] = tents[i].part(which);
@@ -51,7 +51,7 @@ impl<'a> Set<'a> {
     fn put_deltas(&mut self, deltas: &[GlyphDelta])
         requires { self.old.moved + length deltas.now ≤ length self.old.deltas.now }
         ensures is { stores self.new ≡ with_deltas (stores self.old) (paste self.old.deltas.now self.old.moved deltas.now (length deltas.now)) }
-        ensures short { All (λ d. ShortDelta (delta_of d)) deltas.now }
+        ensures short { AllByRecursion (λ d. ShortDelta (delta_of d)) deltas.now }
     {
         let at = self.moved;
         for i in 0..deltas.len() {

@@ -1,6 +1,6 @@
 use Rattle.std.proofs.Common.{◌≡◌, ◌+◌, false, List, set, pos, ap, ◌∙◌, subst, arith, take_all, rules}
 use lib.Seq.{paste}
-use Rattle.std.specs.List.{AllByRecursion as All}
+use Rattle.std.specs.List.{AllByRecursion}
 use Rattle.std.proofs.lemmas.List.Edits.{paste_none, paste_more}
 use Rattle.std.proofs.ByRecursion.{All-more}
 use Rattle.format.specs.Account.{ShortDelta}
@@ -42,5 +42,5 @@ returns c =
     let ds = c.args.deltas.now in
     record {
       is = search rules;
-      short = subst (λ (es : List GlyphDelta). All (λ d. ShortDelta (delta_of d)) es) (take_all c.loop-i.i ds (omega arith)) c.loop-i.invariant.1;
+      short = subst (λ (es : List GlyphDelta). AllByRecursion (λ d. ShortDelta (delta_of d)) es) (take_all c.loop-i.i ds (omega arith)) c.loop-i.invariant.1;
     }

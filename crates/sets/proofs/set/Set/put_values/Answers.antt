@@ -1,6 +1,6 @@
 use Rattle.std.proofs.Common.{◌≡◌, ◌+◌, ◌*◌, ◌≤◌, List, map, length, get_or, set, ℤ, pos, sym, ap, ◌∙◌, subst, arith, take_all, w16, to_z, of_z, rules}
 use lib.Seq.{paste, length-paste}
-use Rattle.std.specs.List.{AllByRecursion as All}
+use Rattle.std.specs.List.{AllByRecursion}
 use Rattle.std.proofs.lemmas.List.Edits.{paste_none, paste_more}
 use Rattle.std.proofs.ByRecursion.{All-more}
 use Rattle.std.proofs.lemmas.List.{length-map, get_or-map}
@@ -43,5 +43,5 @@ returns c =
     record {
       len = ap (λ (t : Stores). length t.values) c.loop-i.invariant.0 ∙ length-paste c.args.self.now.values.now c.args.at xs c.loop-i.i (omega arith) (omega arith);
       is = search rules;
-      short = subst (λ (zs : List ℤ). All Short zs) (take_all c.loop-i.i xs (omega arith)) c.loop-i.invariant.1;
+      short = subst (λ (zs : List ℤ). AllByRecursion Short zs) (take_all c.loop-i.i xs (omega arith)) c.loop-i.invariant.1;
     }
