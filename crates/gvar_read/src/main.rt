@@ -10,6 +10,7 @@ use reader::table::Table;
 use request::{Glyphs, Request};
 use show::{show_glyph, show_table};
 use std::io::{BufWriter, Stdout, Write};
+use std::process::ExitCode;
 
 // The glyphs one after another, each with its number of points; is one of them refused?
 fn show_all(out: &mut BufWriter<Stdout>, table: Table<'_>, counts: &str) -> anyhow::Result<bool> {
@@ -58,10 +59,11 @@ fn run(rt: &HostRuntime) -> anyhow::Result<bool> {
     Ok(refused)
 }
 
-fn main(rt: HostRuntime) -> anyhow::Result<()> {
-    match run(&rt) {
-        Ok(false) => Ok(()),
-        Ok(true) => Err(anyhow!("refused")),
-        Err(e) => Err(e),
-    }
+fn main(rt: HostRuntime) -> anyhow::Result<ExitCode> {
+    let refused = run(&rt)?;
+    Ok(if refused {
+        ExitCode::FAILURE
+    } else {
+        ExitCode::SUCCESS
+    })
 }

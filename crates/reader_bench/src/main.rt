@@ -1,5 +1,5 @@
 // Makes a table of about a megabyte, and measures how many bytes a second are checked and walked.
-// Proved, the program is target/bin/reader_bench; the speeds go to standard error.
+// Proved by `rt run`, the program is out/reader_bench; the speeds go to standard error.
 #![tactic(auto)]
 
 use anyhow::anyhow;
