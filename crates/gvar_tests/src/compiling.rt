@@ -11,7 +11,6 @@ use std::str::SplitWhitespace;
 use write::buffer::Buffer;
 use write::checksum::Checksum;
 use write::counter::Counter;
-use write::sink::Sink;
 
 fn copied(heap: Global, cells: &[CountCell]) -> Result<Vec<CountCell>, AllocError> {
     let mut copy = Vec::new(heap);

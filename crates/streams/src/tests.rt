@@ -2,36 +2,36 @@
 use super::deltas::{DeltaCursor, past_deltas};
 use super::fault::StreamFault;
 use super::points::{PointCount, PointCursor, PointSet, past_points, read_count};
-use std::process::Abort;
 use std::test::Fail;
 
+// Fails with this reason unless the test holds.
+fn check(holds: bool, why: &'static str) -> Result<(), Fail> {
+    if holds { Ok(()) } else { Err(Fail::new(why)) }
+}
+
 // The deltas of the whole table are these.
-fn gives_deltas(rt: &impl Abort, table: &[u8], count: u16, want: &[i16]) -> Result<(), Fail> {
+fn gives_deltas(table: &[u8], count: u16, want: &[i16]) -> Result<(), Fail> {
     let mut cursor = DeltaCursor::new(table, 0, count);
     for v in want {
-        assert_eq!(rt; cursor.next()?, Some(*v));
+        check(cursor.next()? == Some(*v), "another delta")?;
     }
-    assert_eq!(rt; cursor.next()?, None);
-    assert_eq!(rt; cursor.place(), table.len());
-    Ok(())
+    check(cursor.next()? == None, "a delta too many")?;
+    check(cursor.place() == table.len(), "another place")
 }
 
 // The points below p of the whole table are these.
-fn gives_points(rt: &impl Abort, table: &[u8], p: u16, want: &[u16]) -> Result<(), Fail> {
+fn gives_points(table: &[u8], p: u16, want: &[u16]) -> Result<(), Fail> {
     let head = read_count(table, 0)?;
     let mut cursor = PointCursor::new(table, head.past, p, head.count);
     for q in want {
-        assert_eq!(rt; cursor.next()?, Some(*q));
+        check(cursor.next()? == Some(*q), "another point")?;
     }
-    assert_eq!(rt; cursor.next()?, None);
-    assert_eq!(rt;
-        past_points(table, 0, p),
-        Ok(PointSet {
-            size: head.count,
-            past: table.len(),
-        })
-    );
-    Ok(())
+    check(cursor.next()? == None, "a point too many")?;
+    let set = PointSet {
+        size: head.count,
+        past: table.len(),
+    };
+    check(past_points(table, 0, p) == Ok(set), "another set")
 }
 
 // A stream of so many deltas, or of points below that number, and the place of its fault.
@@ -39,18 +39,17 @@ fn gives_points(rt: &impl Abort, table: &[u8], p: u16, want: &[u16]) -> Result<(
 struct Case<'a>(&'a [u8], u16, usize);
 
 #[test]
-fn deltas_are_read(rt: HostRuntime) -> Result<(), Fail> {
-    gives_deltas(&rt, &[0x02, 0x01, 0x00, 0x02], 3, &[1, 0, 2])?;
-    gives_deltas(&rt, &[0x00, 0x01, 0x81, 0x00, 0x02], 4, &[1, 0, 0, 2])?;
+fn deltas_are_read() -> Result<(), Fail> {
+    gives_deltas(&[0x02, 0x01, 0x00, 0x02], 3, &[1, 0, 2])?;
+    gives_deltas(&[0x00, 0x01, 0x81, 0x00, 0x02], 4, &[1, 0, 0, 2])?;
     gives_deltas(
-        &rt,
         &[0x42, 0x01, 0x2C, 0x00, 0x01, 0x01, 0x2C],
         3,
         &[300, 1, 300],
     )?;
-    gives_deltas(&rt, &[0x00, 0x80], 1, &[-128])?;
-    gives_deltas(&rt, &[0x40, 0xFF, 0x7F], 1, &[-129])?;
-    gives_deltas(&rt, &[0xBF, 0x80], 65, &[0; 65])
+    gives_deltas(&[0x00, 0x80], 1, &[-128])?;
+    gives_deltas(&[0x40, 0xFF, 0x7F], 1, &[-129])?;
+    gives_deltas(&[0xBF, 0x80], 65, &[0; 65])
 }
 
 #[test]
@@ -73,10 +72,10 @@ fn deltas_at_fault(rt: HostRuntime) {
 
 #[test]
 fn points_are_read(rt: HostRuntime) -> Result<(), Fail> {
-    gives_points(&rt, &[0x01, 0x00, 0xFF], 256, &[255])?;
-    gives_points(&rt, &[0x01, 0x80, 0x01, 0x00], 257, &[256])?;
-    gives_points(&rt, &[0x02, 0x00, 0x02, 0x80, 0x01, 0x2A], 301, &[2, 300])?;
-    gives_points(&rt, &[0x80, 0x01, 0x00, 0x00], 1, &[0])?;
+    gives_points(&[0x01, 0x00, 0xFF], 256, &[255])?;
+    gives_points(&[0x01, 0x80, 0x01, 0x00], 257, &[256])?;
+    gives_points(&[0x02, 0x00, 0x02, 0x80, 0x01, 0x2A], 301, &[2, 300])?;
+    gives_points(&[0x80, 0x01, 0x00, 0x00], 1, &[0])?;
     assert_eq!(rt;
         past_points(&[0x00], 0, 7),
         Ok(PointSet { size: 7, past: 1 })
