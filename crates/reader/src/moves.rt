@@ -1,5 +1,5 @@
 // The moves of an entry: its points with x and y in step.
-ghost use Rattle.std.specs.Prelude.{◌≡◌, ℕ, ◌<◌, List, ℤ};
+ghost use Rattle.std.specs.Prelude.{◌<◌, List, ℤ};
 ghost use Rattle.format.specs.Reader.{Move as ReadMove};
 ghost use Rattle.reader.specs.MoveWalks.{DeltasLeft, DeltaCame, Falls, deltas_bound, MovesLeft, Moved, moves_bound};
 

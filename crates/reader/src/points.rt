@@ -1,5 +1,5 @@
 // The points of an entry, one after another.
-ghost use Rattle.std.specs.Prelude.{◌≡◌, ℕ, List};
+ghost use Rattle.std.specs.Prelude.{ℕ, List};
 ghost use Rattle.format.specs.Packed.{Points};
 ghost use Rattle.format.specs.Reader.{points_of};
 ghost use Rattle.reader.specs.PointWalks.{ListRead, PointsLeft, Came};

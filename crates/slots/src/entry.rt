@@ -1,5 +1,5 @@
 // The data of one entry: points, x, y, and nothing more.
-ghost use Rattle.std.specs.Prelude.{◌≡◌, ℕ, length};
+ghost use Rattle.std.specs.Prelude.{◌≡◌, length};
 ghost use Rattle.format.specs.Packed.{Points};
 ghost use Rattle.format.specs.Reader.{points_of};
 ghost use Rattle.slots.specs.Entries.{PointsFound, Parted};

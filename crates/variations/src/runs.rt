@@ -1,6 +1,6 @@
 // Runs of packed deltas, one at a time.
 ghost use Rattle.std.specs.Prelude.{◌≡◌, ◌+◌, ◌≤◌, length, drop};
-ghost use Rattle.variations.specs.Deltas.{Stepped, values_from};
+ghost use Rattle.variations.specs.Deltas.{values_from};
 ghost use Rattle.variations.specs.Kinds.{kind_of, kind_ahead, stops, reach};
 ghost use Rattle.variations.specs.Runs.{NextRun, place_after};
 
