@@ -5,32 +5,22 @@ ghost use Rattle.format.specs.Refusals.{RefusalsHold};
 ghost use Rattle.format.specs.Edges.{EdgesReadBack};
 ghost use Rattle.format.specs.Faults.{FaultsFound};
 
-pub fn one_answers() -> u8
+pub fn one_answers()
     ensures { OneAnswers }
-{
-    0
-}
+{}
 
-pub fn rules_hold() -> u8
+pub fn rules_hold()
     ensures { RulesHold }
-{
-    0
-}
+{}
 
-pub fn refusals_hold() -> u8
+pub fn refusals_hold()
     ensures { RefusalsHold }
-{
-    0
-}
+{}
 
-pub fn edges_read_back() -> u8
+pub fn edges_read_back()
     ensures { EdgesReadBack }
-{
-    0
-}
+{}
 
-pub fn faults_found() -> u8
+pub fn faults_found()
     ensures { FaultsFound }
-{
-    0
-}
+{}

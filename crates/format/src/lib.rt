@@ -12,56 +12,38 @@ ghost use Rattle.format.specs.Worked.{given, wanted};
 
 // Each function below states a law of the definitions, so that the check asks for its proof.
 
-pub fn deltas_read_back() -> u8
+pub fn deltas_read_back()
     ensures { DeltasReadBack }
-{
-    0
-}
+{}
 
-pub fn points_read_back() -> u8
+pub fn points_read_back()
     ensures { PointsReadBack }
-{
-    0
-}
+{}
 
-pub fn entries_read_back() -> u8
+pub fn entries_read_back()
     ensures { EntriesReadBack }
-{
-    0
-}
+{}
 
-pub fn ranks_found_again() -> u8
+pub fn ranks_found_again()
     ensures { RanksFoundAgain }
-{
-    0
-}
+{}
 
-pub fn movement_follows() -> u8
+pub fn movement_follows()
     ensures { MovementFollows }
-{
-    0
-}
+{}
 
-pub fn accepted_calls_fix_the_glyphs() -> u8
+pub fn accepted_calls_fix_the_glyphs()
     ensures { AcceptedCallsFixTheGlyphs }
-{
-    0
-}
+{}
 
-pub fn worked_bytes() -> u8
+pub fn worked_bytes()
     ensures { given ≡ wanted }
-{
-    0
-}
+{}
 
-pub fn required_movements_agree() -> u8
+pub fn required_movements_agree()
     ensures { RequiredMovementsAgree }
-{
-    0
-}
+{}
 
-pub fn every_compile_keeps() -> u8
+pub fn every_compile_keeps()
     ensures { EveryCompileKeeps }
-{
-    0
-}
+{}
