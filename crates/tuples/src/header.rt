@@ -5,8 +5,8 @@ ghost use Rattle.format.specs.Glyphs.{index_part, index_word};
 ghost use Rattle.tuples.specs.Tents.{some_region};
 ghost use Rattle.tuples.specs.Headers.{index_of, header_of, third};
 
-use crate::tent::Tent;
 use crate::tuple::Tuple;
+use tents::tent::{Bounds, Tent};
 use write::piece::FontWrite;
 use write::sink::{Sink, SinkError};
 
@@ -117,8 +117,10 @@ pub fn stores_region(peak: &[i16], start: &[i16], end: &[i16]) -> bool
     for i in 0..n {
         let tent = Tent {
             peak: peak[i],
-            min: start[i],
-            max: end[i],
+            bounds: Some(Bounds {
+                min: start[i],
+                max: end[i],
+            }),
         };
         if tent.requires_intermediate() {
             return true;
