@@ -8,3 +8,4 @@ pub mod checksum;
 pub mod counter;
 pub mod piece;
 pub mod sink;
+pub mod words;
