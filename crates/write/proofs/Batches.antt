@@ -30,3 +30,12 @@ kept_fits (Err Full) fits f = absurd (omega (arith, fits, f.outcome.0))
 -- and so a sink with room for them never refuses
 pub kept_never_full : {step : Step} {bs : List ℕ} {a b : Standing} (e : SinkError) → length bs ≤ a.allowance → Fed step bs a b (Err e) → ⊥
 kept_never_full Full fits f = omega (arith, fits, f.outcome.0)
+
+-- What a new batch shows once bytes that fit it were fed to it, and that it took them all.
+
+pub fresh_shows : {N : ℕ} {fresh filled shown bs : List ℕ} → fresh ≡ [] → length bs ≤ N → Fed kept bs (batch_of N fresh) (batch_of N filled) (Ok tt) → shown ≡ filled → shown ≡ bs
+fresh_shows {N} {fresh} {filled} {shown} {bs} e fits f s =
+    s ∙ (kept_fits (Ok tt) (omega (arith, ap length e, fits)) f).1 ∙ ap (λ l. l ++ bs) e
+
+pub fresh_never_full : {N : ℕ} {fresh bs : List ℕ} {b : Standing} (e : SinkError) → fresh ≡ [] → length bs ≤ N → Fed kept bs (batch_of N fresh) b (Err e) → ⊥
+fresh_never_full e is fits f = kept_never_full e (omega (arith, ap length is, fits)) f
