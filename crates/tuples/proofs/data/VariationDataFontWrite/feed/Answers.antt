@@ -1,18 +1,16 @@
 use Rattle.std.proofs.Common.{◌++◌, ap}
-use Rattle.std.proofs.lemmas.Result.{err_from_is_err_and}
-use Rattle.write.proofs.Feeding.{fed_then, fed_stop}
+use Rattle.write.proofs.Feeding.{fed_as, fed_refused, fed_then, fed_stop}
 use Rattle.format.specs.Glyphs.{coordinates}
 use Rattle.variations.specs.Deltas.{deltas_of}
 use Rattle.tuples.specs.Choice.{kept_deltas}
-use Rattle.tuples.proofs.Pieces.{fed_as}
+
 use Rattle.tuples.proofs.data.VariationDataFontWrite.feed.Goals as goal
 
 pub returns-in_err-feed : goal.returns-in_err-feed
 returns-in_err-feed g c =
-    let q = err_from_is_err_and c.from_residual.result c.from_residual.ensures.1 in
     let v = c.args.self.now in
     let values = coordinates (kept_deltas v.all (deltas_of v.deltas.now)) in
-    rw (q.1, q.2) (fed_as (ap (λ l. l ++ values) c.own_points.ensures.bytes) (fed_stop values _ c.in_err-feed.ensures))
+    fed_refused c.from_residual.result c.from_residual.ensures.1 (fed_as (ap (λ l. l ++ values) c.own_points.ensures.bytes) (fed_stop values _ c.in_err-feed.ensures))
 
 pub returns : goal.returns
 returns g c =

@@ -1,11 +1,10 @@
 use Rattle.std.proofs.Common.{◌≤◌, length, Err, sym, ap, ◌∙◌, subst, arith}
-use Rattle.std.proofs.lemmas.Result.{err_from_is_err_and}
 use Rattle.std.proofs.lemmas.List.{nil_from_length}
 use Rattle.std.specs.Slice.Iter.{chunks_rest, chunks_size}
 use Rattle.format.specs.Bytes.{signed_words}
 use Rattle.write.specs.Sinks.{Part}
 use Rattle.write.proofs.Batches.{fresh_shows, fresh_never_full}
-use Rattle.write.proofs.Feeding.{fed_whole, part_none, part_more, part_stop, part_done}
+use Rattle.write.proofs.Feeding.{fed_refused, fed_whole, part_none, part_more, part_stop, part_done}
 use Rattle.tuples.proofs.Words.{length_words, words_append}
 use Rattle.tuples.proofs.tuple.TupleFontWrite.feed.Goals as goal
 
@@ -38,13 +37,12 @@ loop-part-preserved g c =
 
 pub returns-in_err-take : goal.returns-in_err-take
 returns-in_err-take g c =
-    let q = err_from_is_err_and c.from_residual-in_err-take.result c.from_residual-in_err-take.ensures.1 in
     let part = c.in-Some.part.now in
     let rest = chunks_rest c.next.new.self in
     let steps = c.in-Some.ensures.steps in
     let fits : length (signed_words part) ≤ 128 = omega (arith, length_words part, steps.1.1, c.loop-part.invariant.0) in
     let is = fresh_shows c.new-batch.ensures fits c.in_ok-feed_values.ensures c.taken.ensures in
-    rw (q.1, q.2)
+    fed_refused c.from_residual-in_err-take.result c.from_residual-in_err-take.ensures.1
     (part_stop (signed_words part) (signed_words rest) (ap signed_words steps.1.0 ∙ words_append part rest) c.loop-part.invariant.1 _ (fed_whole (Err _) (rw is at c.in_err-take.ensures)))
 
 pub returns : goal.returns
