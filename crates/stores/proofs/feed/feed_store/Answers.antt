@@ -1,5 +1,4 @@
-use Rattle.std.proofs.Common.{◌≡◌, ℕ, List, Ok, Err, sym, subst, arith}
-use Rattle.write.specs.Sinks.{Standing, Step, Reply, Fed}
+use Rattle.std.proofs.Common.{Ok, Err, sym, arith}
 use Rattle.write.proofs.Laws.{handed_none}
 use Rattle.write.proofs.Feeding.{fed_refused, fed_as, fed_whole, fed_then, fed_stop}
 use Rattle.stores.proofs.Parts.{store_parts, no_bytes}

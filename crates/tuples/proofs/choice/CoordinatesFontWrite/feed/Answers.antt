@@ -1,6 +1,5 @@
 use Rattle.write.proofs.Feeding.{fed_as, fed_refused, fed_then, fed_stop}
 use Rattle.tuples.proofs.Choosing.{coordinates_are}
-
 use Rattle.tuples.proofs.choice.CoordinatesFontWrite.feed.Goals as goal
 
 pub returns-in_err-feed : goal.returns-in_err-feed

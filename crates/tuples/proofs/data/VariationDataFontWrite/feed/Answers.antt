@@ -3,7 +3,6 @@ use Rattle.write.proofs.Feeding.{fed_as, fed_refused, fed_then, fed_stop}
 use Rattle.format.specs.Glyphs.{coordinates}
 use Rattle.variations.specs.Deltas.{deltas_of}
 use Rattle.tuples.specs.Choice.{kept_deltas}
-
 use Rattle.tuples.proofs.data.VariationDataFontWrite.feed.Goals as goal
 
 pub returns-in_err-feed : goal.returns-in_err-feed

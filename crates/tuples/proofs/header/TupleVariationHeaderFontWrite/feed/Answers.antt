@@ -1,7 +1,6 @@
 use Rattle.std.proofs.Common.{Err, refl}
 use Rattle.write.proofs.Feeding.{fed_as, fed_refused, fed_whole, fed_then, fed_stop}
 use Rattle.tuples.proofs.Headers.{own_peak, header_parts}
-
 use Rattle.tuples.proofs.header.TupleVariationHeaderFontWrite.feed.Goals as goal
 
 pub returns-in_err-take : goal.returns-in_err-take
