@@ -11,14 +11,14 @@ use crate::parts::TableParts;
 pub(crate) const HEAD_SIZE: usize = 20;
 
 #[derive(Drop)]
-pub(crate) struct Table<'p, P> {
-    pub(crate) parts: &'p P,
-    pub(crate) form: OffsetForm,
+pub struct Table<'p, P> {
+    pub parts: &'p P,
+    pub form: OffsetForm,
 }
 
 impl<'p, P: TableParts> Table<'p, P> {
     // Where the shared peaks begin: after the head and the offsets.
-    pub(crate) fn peaks_start(&self) -> usize
+    pub fn peaks_start(&self) -> usize
         ensures is { result ≡ 20 + length (offsets_data (halves self.now.form) 0 (slots_from (halves self.now.form) (P.glyphs self.now.parts.now) 0)) }
         ensures small { result ≤ 262164 }
     {
@@ -34,7 +34,7 @@ impl<'p, P: TableParts> Table<'p, P> {
     }
 
     // Where the slots begin: after the shared peaks.
-    pub(crate) fn slots_start(&self) -> usize
+    pub fn slots_start(&self) -> usize
         ensures is { result ≡ 20 + (length (offsets_data (halves self.now.form) 0 (slots_from (halves self.now.form) (P.glyphs self.now.parts.now) 0)) + length (peaks_data (P.glyphs self.now.parts.now))) }
         ensures small { result ≤ 536993814 }
     {
