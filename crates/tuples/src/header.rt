@@ -108,16 +108,14 @@ fn tuple_if<'a>(stored: bool, values: &'a [i16]) -> Option<Tuple<'a>>
 pub fn stores_region(peak: &[i16], start: &[i16], end: &[i16]) -> bool
     ensures { result ≡ some_region peak.now start.now end.now }
 {
-    for (&peak, (&min, &max)) in peak.iter().zip(start.iter().zip(end)) {
+    let mut axes = peak.iter().zip(start.iter().zip(end));
+    axes.any(|(&peak, (&min, &max))| {
         let tent = Tent {
             peak,
             bounds: Some(Bounds { min, max }),
         };
-        if tent.requires_intermediate() {
-            return true;
-        }
-    }
-    false
+        tent.requires_intermediate()
+    })
 }
 
 impl<'a> FontWrite for TupleVariationHeader<'a> {
