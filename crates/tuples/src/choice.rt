@@ -26,6 +26,7 @@ pub struct Coordinates<'a> {
 }
 
 impl<'a> Coordinates<'a> {
+    #[inline]
     fn packed(&self, coordinate: Coordinate) -> PackedDeltas<'a>
         ensures { result ≡ record { deltas = self.now.deltas; coordinate = coordinate; all = self.now.all } }
     {
@@ -37,6 +38,7 @@ impl<'a> Coordinates<'a> {
     }
 
     // The number of bytes of both.
+    #[inline]
     pub fn compute_size(&self) -> usize
         ensures size { result ≡ length (coordinates (kept_deltas self.now.all (deltas_of self.now.deltas.now))) }
         ensures most { result ≤ 6 * length self.now.deltas.now }
@@ -54,6 +56,7 @@ impl<'a> FontWrite for Coordinates<'a> {
         self.compute_size()
     }
 
+    #[inline]
     fn feed<S: Sink>(&self, sink: &mut S) -> Result<(), SinkError> {
         self.packed(Coordinate::X).feed(sink)?;
         self.packed(Coordinate::Y).feed(sink)

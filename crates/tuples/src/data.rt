@@ -33,6 +33,7 @@ pub struct VariationData<'a> {
 
 impl<'a> VariationData<'a> {
     // The points, unless they are the shared ones.
+    #[inline]
     fn own_points(&self) -> Option<PackedPointNumbers<'a>>
         ensures bytes { ⟦<Option<PackedPointNumbers<'a>> as FontWrite>⟧.bytes result ≡ points_part self.now.shared self.now.all (deltas_of self.now.deltas.now) }
         ensures most { IfSome result (λ p. deltas_in p ≤ length self.now.deltas.now) }
@@ -55,6 +56,7 @@ impl<'a> VariationData<'a> {
         }
     }
 
+    #[inline]
     fn coordinates(&self) -> Coordinates<'a>
         ensures { result ≡ record { deltas = self.now.deltas; all = self.now.all } }
     {

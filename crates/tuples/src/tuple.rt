@@ -1,9 +1,7 @@
 // One number for each axis, as words.
-ghost use Rattle.std.specs.Prelude.{◌≡◌};
+ghost use Rattle.std.specs.Prelude.{◌≡◌, ◌*◌, min, length, take};
 ghost use Rattle.format.specs.Bytes.{signed_words};
-ghost use Rattle.write.specs.Sinks.{Fed};
 
-use write::batch::Batch;
 use write::piece::FontWrite;
 use write::sink::{Sink, SinkError};
 
@@ -18,14 +16,18 @@ pub struct Tuple<'a> {
     pub values: &'a [i16],
 }
 
-// Hands over the words of these values one by one.
-fn feed_values<S: Sink>(values: &[i16], sink: &mut S) -> Result<(), SinkError>
-    ensures { Fed S.step (signed_words values.now) (S.stands sink.old) (S.stands sink.new) result }
+// Puts the words of the first values into the bytes; answers how many values those are.
+fn pack(values: &[i16], bytes: &mut [u8; BYTES]) -> usize
+    ensures many { result ≡ min (length values.now) 64 }
+    ensures words { take (2 * result) bytes.new ≡ signed_words (take result values.now) }
 {
-    for v in values {
-        sink.take(&v.to_be_bytes())?;
+    let n = values.len().min(VALUES);
+    for i in 0..n {
+        let w = values[i].to_be_bytes();
+        bytes[2 * i] = w[0];
+        bytes[2 * i + 1] = w[1];
     }
-    Ok(())
+    n
 }
 
 impl<'a> FontWrite for Tuple<'a> {
@@ -36,10 +38,10 @@ impl<'a> FontWrite for Tuple<'a> {
     }
 
     fn feed<S: Sink>(&self, sink: &mut S) -> Result<(), SinkError> {
+        let mut bytes = [0u8; BYTES];
         for part in self.values.chunks(VALUES) {
-            let mut batch: Batch<BYTES> = Batch::new();
-            feed_values(part, &mut batch)?;
-            sink.take(batch.taken())?;
+            let n = pack(part, &mut bytes);
+            sink.take(&bytes[..2 * n])?;
         }
         Ok(())
     }
