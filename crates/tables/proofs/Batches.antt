@@ -1,17 +1,9 @@
--- A batch of bytes on its way to a sink: what is put into it, and what is handed over.
-use Rattle.std.proofs.Common.{◌≡◌, ℕ, ◌+◌, ◌<◌, List, [], ◌∷◌, ◌++◌, length, take, set, Err, sym, refl, ap, ◌∙◌, subst, append_assoc, append-nil, arith, length-set}
-use Rattle.std.proofs.lemmas.List.{take_more_set}
+-- Bytes that are held back before they go to a sink, and what is handed over of them.
+use Rattle.std.proofs.Common.{◌≡◌, ℕ, List, [], ◌++◌, Err, sym, refl, ap, ◌∙◌, subst, append_assoc, append-nil}
 use Rattle.write.specs.declared.sink.SinkError.{SinkError}
 use Rattle.write.specs.Sinks.{Standing, Step, Reply, Part, Fed}
 use Rattle.write.proofs.Laws.{handed_none}
 use Rattle.write.proofs.Feeding.{fed_then, part_more, part_stop}
-
-pub take_two : (bs : List ℕ) (j x y : ℕ) → j + 1 < length bs → take (j + 2) (set (set bs j x) (j + 1) y) ≡ take j bs ++ (x ∷ y ∷ [])
-take_two bs j x y h =
-    ap (λ n. take n (set (set bs j x) (j + 1) y)) (omega arith)
-    ∙ take_more_set (set bs j x) (j + 1) y (omega (arith, length-set bs j x))
-    ∙ ap (λ l. l ++ (y ∷ [])) (take_more_set bs j x (omega arith))
-    ∙ append_assoc (take j bs) (x ∷ []) (y ∷ [])
 
 -- Bytes held back stand before the rest.
 

@@ -8,6 +8,7 @@ use Rattle.format.specs.Table.{even, even_total, padded, glyphs_bytes}
 use Rattle.format.proofs.Padded.{padded_even}
 use Rattle.tables.specs.declared.layout.Sums.{Sums}
 use Rattle.tables.specs.declared.layout.Layout.{Layout}
+use Rattle.tables.specs.Forms.{halves}
 use Rattle.tables.specs.Parts.{glyph_at}
 use Rattle.tables.specs.Layouts.{Summed, Laid}
 
@@ -62,7 +63,7 @@ module _ (gs : List Glyph) (s : Sums) (h : Summed gs (length gs) s) where
   pub laid_not : 67108864 < s.even → 67108864 < even_total (glyphs_bytes gs)
   laid_not l = subst (λ (n : ℕ). 67108864 < n) even_is l
 
-  pub laid_short : (l : Layout) → s.even ≤ 67108864 → s.even / 2 ≤ 65535 → l.short ≡ true → l.slots ≡ s.even → Laid gs l
+  pub laid_short : (l : Layout) → s.even ≤ 67108864 → s.even / 2 ≤ 65535 → halves l.form ≡ true → l.slots ≡ s.even → Laid gs l
   laid_short l few half e z =
       record {
         form = e ∙ sym (le-leb (even_total (glyphs_bytes gs) / 2) 65535 (subst (λ (n : ℕ). n / 2 ≤ 65535) even_is half));
@@ -70,7 +71,7 @@ module _ (gs : List Glyph) (s : Sums) (h : Summed gs (length gs) s) where
         small = subst (λ (n : ℕ). n ≤ 67108864) even_is few;
       }
 
-  pub laid_long : (l : Layout) → s.even ≤ 67108864 → 65535 < s.even / 2 → l.short ≡ false → l.slots ≡ s.exact → Laid gs l
+  pub laid_long : (l : Layout) → s.even ≤ 67108864 → 65535 < s.even / 2 → halves l.form ≡ false → l.slots ≡ s.exact → Laid gs l
   laid_long l few half e z =
       record {
         form = e ∙ sym (lt-leb (even_total (glyphs_bytes gs) / 2) 65535 (subst (λ (n : ℕ). 65535 < n / 2) even_is half));

@@ -8,6 +8,7 @@ use Rattle.format.proofs.Padded.{padded_total}
 use Rattle.format.proofs.Places.{length_glyphs_bytes}
 use Rattle.format.proofs.TableFront.{formed, table_formed}
 use Rattle.tables.specs.declared.layout.Layout.{Layout}
+use Rattle.tables.specs.Forms.{halves}
 use Rattle.tables.specs.Parts.{peak_count, peaks_data, slots_from, slots_data, offsets_data, head_of, head_data}
 use Rattle.tables.specs.Layouts.{Laid}
 use Rattle.tables.proofs.Slots.{slots_all}
@@ -24,7 +25,7 @@ unfolding formed assembled peak_count peaks_data offsets_data slots_data
 formed_is s a gs = refl
 
 module _ (a : ℕ) (gs : List Glyph) (l : Layout) (h : Laid gs l) where
-  pub table_is : (s : Bool) → s ≡ l.short →
+  pub table_is : (s : Bool) → s ≡ halves l.form →
       let slots = slots_from s gs 0 in
       table_bytes a gs ≡ head_data s a gs ++ (offsets_data s 0 slots ++ (peaks_data gs ++ slots_data slots))
   unfolding table_bytes head_data assembled
@@ -36,7 +37,7 @@ module _ (a : ℕ) (gs : List Glyph) (l : Layout) (h : Laid gs l) where
       ∙ ap (λ (bs : List (List ℕ)). assembled s a gs bs (length gs)) (sym (slots_all s gs))
 
   abbrev form : Bool
-  form = l.short
+  form = halves l.form
 
   abbrev slots : List (List ℕ)
   slots = slots_from form gs 0

@@ -6,6 +6,7 @@ use Rattle.format.specs.Glyphs.{listed}
 use Rattle.format.specs.Table.{even_total, is_short, padded, glyphs_bytes}
 use Rattle.tables.specs.declared.layout.Sums.{Sums}
 use Rattle.tables.specs.declared.layout.Layout.{Layout}
+use Rattle.tables.specs.Forms.{halves}
 use Rattle.tables.specs.Parts.{glyph_at}
 
 -- the sums over the first n glyphs
@@ -17,6 +18,6 @@ pub record Summed (gs : List Glyph) (n : ℕ) (s : Sums) : Type 0 where
 
 -- the layout of the table of these glyphs: its form, the size of its slots, and that they are not too large
 pub record Laid (gs : List Glyph) (l : Layout) : Type 0 where
-  pub form : l.short ≡ is_short (glyphs_bytes gs)
-  pub size : l.slots ≡ length (joined (map (padded l.short) (glyphs_bytes gs)))
+  pub form : halves l.form ≡ is_short (glyphs_bytes gs)
+  pub size : l.slots ≡ length (joined (map (padded (halves l.form)) (glyphs_bytes gs)))
   pub small : even_total (glyphs_bytes gs) ≤ 67108864

@@ -1,13 +1,12 @@
 // The layout of a table: its form, and where its parts begin.
-ghost use Rattle.std.specs.Prelude.{◌≡◌, ◌+◌, ◌<◌, ◌≤◌, length, MatchResult};
+ghost use Rattle.std.specs.Prelude.{◌≡◌, ◌<◌, length, MatchResult};
 ghost use Rattle.format.specs.Table.{even_total, glyphs_bytes, table_bytes};
-ghost use Rattle.tables.specs.Parts.{peaks_data, slots_from, offsets_data, width_of};
 ghost use Rattle.tables.specs.Layouts.{Summed, Laid};
 
+use crate::form::OffsetForm;
 use crate::parts::TableParts;
-
-// The size of all that stands before the offsets.
-const HEAD_SIZE: usize = 20;
+use crate::table::Table;
+use thiserror::Error;
 
 // The most bytes that the glyphs may have together, each taken with an even size.
 const MOST_BYTES: usize = 67108864;
@@ -16,7 +15,8 @@ const MOST_BYTES: usize = 67108864;
 const MOST_SHORT: usize = 65535;
 
 // The glyphs have more bytes than a table may hold.
-#[derive(Clone, Copy, PartialEq, Eq, Debug)]
+#[derive(Clone, Copy, PartialEq, Eq, Debug, Error)]
+#[error("the glyphs have more bytes than a table may hold")]
 pub struct TooLarge;
 
 // The sizes of the glyphs together, each rounded up to an even size, and as they are.
@@ -29,16 +29,16 @@ struct Sums {
 // The form of a table, and the size of all its slots.
 #[derive(Clone, Copy)]
 pub struct Layout {
-    short: bool,
+    form: OffsetForm,
     slots: usize,
 }
 
 impl Layout {
-    // Whether offsets are halved words.
-    pub fn is_short(&self) -> bool
-        ensures { result ≡ self.now.short }
+    // Whether offsets are halved.
+    pub fn form(&self) -> OffsetForm
+        ensures { result ≡ self.now.form }
     {
-        self.short
+        self.form
     }
 }
 
@@ -65,45 +65,14 @@ pub fn lay_out<P: TableParts>(parts: &P) -> Result<Layout, TooLarge>
     }
     if sums.even / 2 <= MOST_SHORT {
         return Ok(Layout {
-            short: true,
+            form: OffsetForm::Short,
             slots: sums.even,
         });
     }
     Ok(Layout {
-        short: false,
+        form: OffsetForm::Long,
         slots: sums.exact,
     })
-}
-
-// The size of an offset.
-fn width(short: bool) -> usize
-    ensures { result ≡ width_of short }
-{
-    if short { 2 } else { 4 }
-}
-
-// Where the shared peaks begin: after the head and the offsets.
-pub fn peaks_start<P: TableParts>(parts: &P, short: bool) -> usize
-    ensures is { result ≡ 20 + length (offsets_data short 0 (slots_from short (P.glyphs parts.now) 0)) }
-    ensures small { result ≤ 262164 }
-{
-    HEAD_SIZE + width(short) * (parts.glyph_count() + 1)
-}
-
-// The size of the shared peaks.
-fn peaks_size<P: TableParts>(parts: &P) -> usize
-    ensures is { result ≡ length (peaks_data (P.glyphs parts.now)) }
-    ensures small { result ≤ 536731650 }
-{
-    2 * (parts.axis_count() as usize * parts.shared_count())
-}
-
-// Where the slots begin: after the shared peaks.
-pub fn slots_start<P: TableParts>(parts: &P, short: bool) -> usize
-    ensures is { result ≡ 20 + (length (offsets_data short 0 (slots_from short (P.glyphs parts.now) 0)) + length (peaks_data (P.glyphs parts.now))) }
-    ensures small { result ≤ 536993814 }
-{
-    peaks_start(parts, short) + peaks_size(parts)
 }
 
 // The length of the table of these parts.
@@ -111,5 +80,9 @@ pub fn table_length<P: TableParts>(parts: &P, layout: Layout) -> usize
     ensures is { Laid (P.glyphs parts.now) layout → result ≡ length (table_bytes (P.axes parts.now) (P.glyphs parts.now)) }
     ensures small { Laid (P.glyphs parts.now) layout → result < 4294967296 }
 {
-    slots_start(parts, layout.short).saturating_add(layout.slots)
+    let table = Table {
+        parts,
+        form: layout.form,
+    };
+    table.slots_start().saturating_add(layout.slots)
 }

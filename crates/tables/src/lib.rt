@@ -2,5 +2,7 @@
 #![tactic(auto)]
 
 pub mod feed;
+pub mod form;
 pub mod layout;
 pub mod parts;
+pub mod table;

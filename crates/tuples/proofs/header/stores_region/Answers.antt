@@ -1,33 +1,25 @@
-use Rattle.std.proofs.Common.{◌≡◌, ◌<◌, ◌≤◌, min, not, length, sym, ap, ◌∙◌, arith, rules}
-use Rattle.format.specs.Glyphs.{bounds_implied}
-use Rattle.tuples.proofs.Regions.{tent_at, region_go, region_stop, region_end}
+use Rattle.std.proofs.Common.{◌≡◌, ℕ, ◌<◌, Bool, true, false, List, length, ℤ, pos, MatchBool, sym, refl, ◌∙◌, arith, rules, tests}
+use Rattle.std.specs.List.{zip, HoldsAt, AllWithin}
+use Rattle.std.proofs.lemmas.Bool.{false≢true}
+use Rattle.std.proofs.lemmas.Iterator.{cases_from_any, YieldsList-from_slice, YieldsList-from_zip}
+use Rattle.std.proofs.lemmas.List.Recursion.{or_is}
+use Rattle.tuples.proofs.Regions.{is_outside, some_outside, region_is}
 use Rattle.tuples.proofs.header.stores_region.Goals as goal
 
-pub returns-then-requires_intermediate : goal.returns-then-requires_intermediate
-returns-then-requires_intermediate c =
-    let ps = c.args.peak.now in
-    let ss = c.args.start.now in
-    let es = c.args.end.now in
-    let i = c.loop-i.i in
-    let h : i < min (min (length ps) (length ss)) (length es) = omega (arith, c.min.ensures, c.min-n.ensures) in
-    let is : c.requires_intermediate.result ≡ not (bounds_implied (tent_at ps ss es i)) = search rules in
-    sym (ap not (c.loop-i.invariant ∙ region_stop ps ss es i c.requires_intermediate.result h is c.if-requires_intermediate.true))
-
-pub loop-i-preserved : goal.loop-i-preserved
-loop-i-preserved c =
-    let ps = c.args.peak.now in
-    let ss = c.args.start.now in
-    let es = c.args.end.now in
-    let i = c.loop-i.i in
-    let h : i < min (min (length ps) (length ss)) (length es) = omega (arith, c.min.ensures, c.min-n.ensures) in
-    let is : c.requires_intermediate.result ≡ not (bounds_implied (tent_at ps ss es i)) = search rules in
-    c.loop-i.invariant ∙ region_go ps ss es i c.requires_intermediate.result h is c.if-requires_intermediate.false
+-- what the walk over the axes answers
+found : (r : Bool) (xs : List (ℤ × (ℤ × ℤ))) → MatchBool r ((k : ℕ) × (k < length xs) × HoldsAt (λ x. is_outside x ≡ true) xs k) (AllWithin (λ x. is_outside x ≡ false) xs 0 (length xs)) → r ≡ some_outside xs
+found true xs h = or_is some_outside is_outside refl (λ _ _. refl) xs (pos 0, (pos 0, pos 0)) true (λ e. (h.0, h.1, h.2 (pos 0, (pos 0, pos 0)))) (λ e. absurd (false≢true (sym e)))
+found false xs h = or_is some_outside is_outside refl (λ _ _. refl) xs (pos 0, (pos 0, pos 0)) false (λ e. absurd (false≢true e)) (λ e i l. h i (pos 0, (pos 0, pos 0)) (omega arith) l)
 
 pub returns : goal.returns
 returns c =
     let ps = c.args.peak.now in
     let ss = c.args.start.now in
     let es = c.args.end.now in
-    let i = c.loop-i.i in
-    let h : min (min (length ps) (length ss)) (length es) ≤ i = omega (arith, c.min.ensures, c.min-n.ensures) in
-    sym (ap not (c.loop-i.invariant ∙ region_end ps ss es i h))
+    found _ (zip ps (zip ss es))
+    (cases_from_any c.any.new.self _ c.any.result (λ x. is_outside x ≡ true) (λ x. is_outside x ≡ false)
+    c.any.ensures.ran
+    (YieldsList-from_zip (YieldsList-from_slice ps cc) (YieldsList-from_zip (YieldsList-from_slice ss cc) (YieldsList-from_slice es cc)))
+    (λ x q k. search (rules, tests))
+    (λ x q k. search (rules, tests)))
+    ∙ region_is ps ss es

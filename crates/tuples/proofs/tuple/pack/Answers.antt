@@ -7,7 +7,7 @@ pub loop-i-preserved : goal.loop-i-preserved
 loop-i-preserved c =
     let zs = c.args.values.now in
     let i = c.loop-i.i in
-    let bs = c.loop-i.batch in
+    let bs = c.loop-i.bytes in
     let is : c.to_be_bytes-w.result ≡ word (of_z w16 (get_or zs i (pos 0))) = search rules in
     let in-batch : 2 * i + 1 < length bs = omega arith in
     let in-values : i < length zs = omega arith in
