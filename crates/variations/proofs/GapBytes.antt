@@ -1,6 +1,7 @@
 -- The bytes of packed points: the count, and then the runs.
-use Rattle.std.proofs.Common.{◌≡◌, ℕ, suc, ◌+◌, Bool, true, false, List, [], ◌∷◌, ◌++◌, map, length, cond, sym, refl, ap, ◌∙◌, count_by, arith}
-use Rattle.std.proofs.lemmas.List.Recursion.{is_count_by}
+use Rattle.std.proofs.Common.{◌≡◌, ℕ, suc, ◌+◌, Bool, true, false, List, [], ◌∷◌, ◌++◌, map, length, cond, sym, refl, ap, ◌∙◌, sum_by, ◌≤◌, arith}
+use Rattle.std.proofs.lemmas.List.Recursion.{is_sum_by}
+use Rattle.std.proofs.lemmas.Bool.{cond_both}
 use Rattle.format.specs.Account.{Delta}
 use Rattle.format.specs.Bytes.{joined}
 use Rattle.format.specs.Packed.{gaps_after, gap_run_bytes, count_bytes, cut_gaps_at_most}
@@ -28,9 +29,19 @@ from_any n m (d ∷ ds) = by d.required _ _ (from_any (suc n) (suc m) ds)
     by true xs ys e = ap suc e
     by false xs ys e = e
 
-pub count_is : (ds : List GlyphDelta) → count_by (λ d. d.required) ds ≡ length (required_from 0 (deltas_of ds))
-count_is ds = sym (is_count_by (λ ds. length (required_from 0 (deltas_of ds))) (λ d. d.required) refl (λ d ds. by d.required (deltas_of ds)) ds)
+abbrev pub one_if_required : GlyphDelta → ℕ
+one_if_required d = cond d.required 1 0
+
+pub count_is : (ds : List GlyphDelta) → sum_by one_if_required ds ≡ length (required_from 0 (deltas_of ds))
+count_is ds = sym (is_sum_by (λ ds. length (required_from 0 (deltas_of ds))) one_if_required refl (λ d ds. by d.required (deltas_of ds)) ds)
   where
-    by : (b : Bool) (ds : List Delta) → length (cond b (0 ∷ required_from 1 ds) (required_from 1 ds)) ≡ cond b (1 + length (required_from 0 ds)) (length (required_from 0 ds))
+    by : (b : Bool) (ds : List Delta) → length (cond b (0 ∷ required_from 1 ds) (required_from 1 ds)) ≡ cond b 1 0 + length (required_from 0 ds)
     by true ds = ap suc (from_any 1 0 ds) ∙ omega arith
-    by false ds = from_any 1 0 ds
+    by false ds = from_any 1 0 ds ∙ omega arith
+
+pub count_most : (n : ℕ) (ds : List GlyphDelta) → length (required_from n (deltas_of ds)) ≤ length ds
+count_most n [] = omega arith
+count_most n (d ∷ ds) =
+    let r = required_from (suc n) (deltas_of ds) in
+    let h = count_most (suc n) ds in
+    cond_both d.required (n ∷ r) r (λ ps. length ps ≤ suc (length ds)) (λ _. omega arith) (λ _. omega arith)

@@ -25,7 +25,7 @@ pub enum PackedPointNumbers<'a> {
 pub fn required_count(deltas: &[GlyphDelta]) -> usize
     ensures { result ≡ length (required_from 0 (deltas_of deltas.now)) }
 {
-    deltas.iter().filter(|d| d.required).count()
+    deltas.iter().map(|d| usize::from(d.required)).sum()
 }
 
 fn count_size(count: usize) -> usize
