@@ -1,7 +1,7 @@
 -- The bytes of a delta, as the program makes them.
-use Rattle.std.proofs.Common.{◌≡◌, ◌+◌, ◌/◌, ◌%◌, ◌<◌, true, [], ◌∷◌, ℤ, pos, negsuc, refl, ap, ◌∙◌, arith, w16, of_z}
+use Rattle.std.proofs.Common.{◌≡◌, ◌%◌, true, ℤ, pos, negsuc, refl, arith, w16, of_z}
 use Rattle.std.proofs.lemmas.Bool.Decides.{nat_tests}
-use Rattle.format.specs.Bytes.{bits8, bits16, word}
+use Rattle.format.specs.Bytes.{bits8, bits16}
 use Rattle.variations.specs.DeltaForm.{is_byte_value}
 
 pub of_z_bits : (z : ℤ) → of_z w16 z ≡ bits16 z

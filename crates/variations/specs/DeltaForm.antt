@@ -1,5 +1,5 @@
 -- How deltas are held in runs: the form of packed deltas, over the program's kinds.
-use Rattle.std.specs.Prelude.{ℕ, Bool, true, false, cond, ◌&&◌, List, map, ℤ, pos, negsuc, Some, None, Option, int_le}
+use Rattle.std.specs.Prelude.{ℕ, Bool, true, false, cond, ◌&&◌, map, ℤ, pos, negsuc, Some, None, Option, int_le}
 use Rattle.format.specs.Packed.{Kind, zeros, bytes, words, Run, value_bytes, packed_deltas}
 use Rattle.format.specs.Packed.{cut as format_cut}
 use Rattle.variations.specs.declared.delta_kinds.DeltaKind.{DeltaKind}

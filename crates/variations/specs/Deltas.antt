@@ -1,5 +1,5 @@
 -- One coordinate of the deltas of a variation, as a list.
-use Rattle.std.specs.Prelude.{◌≡◌, ℕ, ◌+◌, Bool, cond, ◌||◌, List, [], ◌∷◌, map, drop, ℤ, Option, position, option_map}
+use Rattle.std.specs.Prelude.{ℕ, ◌+◌, Bool, cond, ◌||◌, List, [], ◌∷◌, map, drop, ℤ, Option, position, option_map}
 use Rattle.format.specs.Account.{Delta}
 use Rattle.variations.specs.declared.delta.GlyphDelta.{GlyphDelta}
 use Rattle.variations.specs.declared.delta.Coordinate.{Coordinate}

@@ -1,5 +1,5 @@
 -- How gaps are held in runs: the form of packed points, over the program's kinds.
-use Rattle.std.specs.Prelude.{ℕ, Bool, true, false, cond, List, map, Option}
+use Rattle.std.specs.Prelude.{ℕ, Bool, true, false, map, Option}
 use Rattle.format.specs.Packed.{is_wide, same_class, GapRun, gap_bytes}
 use Rattle.variations.specs.declared.gap_kinds.PointKind.{PointKind}
 use Rattle.variations.specs.declared.gap_kinds.PointKind.TheVariants.{Bytes, Words}

@@ -1,7 +1,6 @@
-use Rattle.std.proofs.Common.{◌≡◌, ◌+◌, ◌-◌, [], ◌∷◌, ◌++◌, map, take, length, Err, sym, refl, ap, ◌∙◌, subst, arith}
+use Rattle.std.proofs.Common.{map, take, Err, sym, ◌∙◌}
 use Rattle.std.proofs.lemmas.Result.{err_from_is_err_and}
 use Rattle.format.specs.Bytes.{joined}
-use Rattle.write.specs.Sinks.{Fed}
 use Rattle.write.proofs.Feeding.{fed_whole, fed_then, fed_stop}
 use Rattle.variations.proofs.Filling.{run_bytes_is, values_none}
 use Rattle.variations.proofs.packing.put_run.Goals as goal

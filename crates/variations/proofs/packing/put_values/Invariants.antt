@@ -12,5 +12,5 @@ invariant-loop g l =
     record {
       enough : left ≤ length (values l.place);
       fit : AllByRecursion (λ v. f.holds l.fn.run.kind v ≡ true) (take left (values l.place));
-      fed : Part g.S.Sink.step (joined (map (f.value_bytes l.fn.run.kind) (take l.fn.run.count (values l.fn.run.start)))) (joined (map (f.value_bytes l.fn.run.kind) (take left (values l.place)))) (g.S.Sink.stands l.initial.sink) (g.S.Sink.stands l.sink)
+      fed : Part g.S.Sink.step (joined (map (f.value_bytes l.fn.run.kind) (take l.fn.run.count (values l.fn.run.start)))) (joined (map (f.value_bytes l.fn.run.kind) (take left (values l.place)))) (g.S.Sink.stands l.initial.sink) (g.S.Sink.stands l.sink);
     }

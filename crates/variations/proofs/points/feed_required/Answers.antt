@@ -1,4 +1,3 @@
-use Rattle.std.proofs.Common.{Err, ap, ◌∙◌}
 use Rattle.std.proofs.lemmas.Result.{err_from_is_err_and}
 use Rattle.write.proofs.Feeding.{fed_then, fed_stop}
 use Rattle.variations.specs.Gaps.{gaps_from, gap_runs_bytes}

@@ -1,4 +1,4 @@
-use Rattle.std.proofs.Common.{◌<◌, ◌^◌, sum_by, length, ◌∙◌, arith, rules, tests}
+use Rattle.std.proofs.Common.{◌<◌, ◌^◌, sum_by, ◌∙◌, arith, rules, tests}
 use Rattle.std.proofs.lemmas.Iterator.{YieldsList-from_slice, YieldsList-from_map}
 use Rattle.std.proofs.lemmas.Iterator.Consumers.{sum_by_from_yields_List, fits_by_from_yields_list}
 use Rattle.variations.proofs.GapBytes.{one_if_required, count_is, count_most}

@@ -1,4 +1,4 @@
-use Rattle.std.proofs.Common.{◌≡◌, ◌/◌, ◌%◌, true, [], ◌∷◌, take, drop, ap, ◌∙◌, w16, of_z, rules}
+use Rattle.std.proofs.Common.{◌≡◌, true, [], ◌∷◌, take, drop, ap, ◌∙◌, w16, of_z, rules}
 use Rattle.format.specs.Bytes.{word, bits8, bits16}
 use Rattle.write.proofs.Feeding.{fed_whole}
 use Rattle.variations.specs.DeltaForm.{is_byte_value}

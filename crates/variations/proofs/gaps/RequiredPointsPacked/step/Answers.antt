@@ -1,4 +1,4 @@
-use Rattle.std.proofs.Common.{◌+◌, ◌-◌, ◌∷◌, pos, false, ap, ◌∙◌, arith}
+use Rattle.std.proofs.Common.{◌+◌, ◌∷◌, pos, false, ap, ◌∙◌, arith}
 use Rattle.variations.specs.Gaps.{gaps_from}
 use Rattle.variations.proofs.GapCuts.{gap_found, gap_none}
 use Rattle.variations.proofs.gaps.RequiredPointsPacked.step.Goals as goal

@@ -1,5 +1,4 @@
-use Rattle.std.proofs.Common.{◌≡◌, ◌<◌, ◌-◌, true, false, drop, sym, ap, ◌∙◌, arith, rules}
-use Rattle.variations.specs.Forms.{reach}
+use Rattle.std.proofs.Common.{◌<◌, true, false, drop, sym, ap, ◌∙◌, arith, rules}
 use Rattle.variations.proofs.Reaching.{stop_test, reach_go, reach_stop}
 use Rattle.variations.proofs.runs.Runs.run_end.Goals as goal
 

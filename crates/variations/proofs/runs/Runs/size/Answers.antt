@@ -1,4 +1,4 @@
-use Rattle.std.proofs.Common.{sym, refl, ap, ◌∙◌, length, subst, arith, rules}
+use Rattle.std.proofs.Common.{sym, refl, ap, ◌∙◌, length, subst, arith}
 use Rattle.variations.specs.Runs.{RunAt}
 use Rattle.variations.proofs.Filling.{sized, bytes_none}
 use Rattle.variations.proofs.runs.Runs.size.Goals as goal
