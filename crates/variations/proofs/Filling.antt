@@ -66,19 +66,19 @@ module _ {K V : Type 0} (f : Form K V) (most : ℕ) (law : Lawful f most) where
     width_most : r.count * f.width r.kind ≤ 2 * r.count
     width_most = let w = law.narrow r.kind in grind arith
 
-    -- an empty batch of 257 bytes has room for it, and then shows it
-    run_fits : (a : Standing) → 257 ≤ a.allowance + length a.state → a.state ≡ [] → length (run_bytes f (run_of r (values r.start))) ≤ a.allowance
-    run_fits a room e =
-        rw h.starts (omega (arith, length_run, width_most, h.few, law.few, room, ap length e))
+    -- an empty batch of n bytes, two for each value and one more, has room for it, and then shows it
+    run_fits : (n : ℕ) (a : Standing) → 1 + 2 * most ≤ n → n ≤ a.allowance + length a.state → a.state ≡ [] → length (run_bytes f (run_of r (values r.start))) ≤ a.allowance
+    run_fits n a big room e =
+        rw h.starts (omega (arith, length_run, width_most, h.few, big, room, ap length e))
 
-    pub run_shown : {a b : Standing} (shown : List ℕ) → 257 ≤ a.allowance + length a.state → a.state ≡ [] → Fed kept (run_bytes f (run_of r (values r.start))) a b (Ok tt) →
+    pub run_shown : {a b : Standing} (n : ℕ) (shown : List ℕ) → 1 + 2 * most ≤ n → n ≤ a.allowance + length a.state → a.state ≡ [] → Fed kept (run_bytes f (run_of r (values r.start))) a b (Ok tt) →
         shown ≡ b.state → shown ≡ run_bytes f (run_of r (values p))
-    run_shown {a} shown room e d s =
+    run_shown {a} n shown big room e d s =
         let bs = run_bytes f (run_of r (values r.start)) in
-        s ∙ (kept_fits (Ok tt) (run_fits a room e) d).1 ∙ ap (λ l. l ++ bs) e ∙ ap (λ q. run_bytes f (run_of r (values q))) h.starts
+        s ∙ (kept_fits (Ok tt) (run_fits n a big room e) d).1 ∙ ap (λ l. l ++ bs) e ∙ ap (λ q. run_bytes f (run_of r (values q))) h.starts
 
-    pub run_never_full : {a b : Standing} (e : SinkError) → 257 ≤ a.allowance + length a.state → a.state ≡ [] → Fed kept (run_bytes f (run_of r (values r.start))) a b (Err e) → ⊥
-    run_never_full {a} e room empty d = kept_never_full e (run_fits a room empty) d
+    pub run_never_full : {a b : Standing} (n : ℕ) (e : SinkError) → 1 + 2 * most ≤ n → n ≤ a.allowance + length a.state → a.state ≡ [] → Fed kept (run_bytes f (run_of r (values r.start))) a b (Err e) → ⊥
+    run_never_full {a} n e big room empty d = kept_never_full e (run_fits n a big room empty) d
 
     -- a loop over the runs that adds up their sizes
     pub record Sized (from size n total : ℕ) : Type 0 where

@@ -6,6 +6,7 @@ ghost use Rattle.variations.specs.Deltas.{values_from};
 use crate::delta::{Coordinate, GlyphDelta, next_stored};
 use crate::delta_kinds::DeltaKind;
 use crate::runs::{Packed, Run, Runs, Step};
+use write::batch::Batch;
 use write::piece::FontWrite;
 use write::sink::{Sink, SinkError};
 
@@ -66,6 +67,6 @@ impl<'a> FontWrite for PackedDeltas<'a> {
     }
 
     fn feed<S: Sink>(&self, sink: &mut S) -> Result<(), SinkError> {
-        self.iter_runs().feed(sink)
+        self.iter_runs().feed(Batch::<129>::new(), sink)
     }
 }

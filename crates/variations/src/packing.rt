@@ -1,5 +1,5 @@
 // Runs of packed values: their size, and their bytes into a sink.
-ghost use Rattle.std.specs.Prelude.{◌≡◌, ◌+◌, ◌*◌, ◌^◌, ◌<◌, ◌≤◌, map, length, take};
+ghost use Rattle.std.specs.Prelude.{◌≡◌, ◌+◌, ◌*◌, ◌^◌, ◌<◌, ◌≤◌, [], map, length, take};
 ghost use Rattle.format.specs.Bytes.{joined};
 ghost use Rattle.write.specs.Sinks.{Fed};
 ghost use Rattle.variations.specs.Forms.{run_bytes};
@@ -9,9 +9,6 @@ use crate::kinds::RunKind;
 use crate::runs::{Packed, Run, Runs};
 use write::batch::Batch;
 use write::sink::{Sink, SinkError};
-
-// The most bytes of a run: the control byte, and two for each of 128 values.
-const MAX_RUN_BYTES: usize = 257;
 
 impl<K: RunKind> Run<K> {
     // The number of its bytes: the control byte, and the values.
@@ -70,13 +67,19 @@ impl<P: Packed> Runs<P> {
         size
     }
 
-    // Hands over the bytes of the runs, those of each together.
-    pub(crate) fn feed<S: Sink>(self, sink: &mut S) -> Result<(), SinkError>
-        requires { self.place ≤ P.places self.values }
+    // Hands over the bytes of the runs, those of each together: the batch has room for a control byte and two bytes for
+    // each value.
+    pub(crate) fn feed<const N: usize, S: Sink>(
+        self,
+        mut batch: Batch<N>,
+        sink: &mut S,
+    ) -> Result<(), SinkError>
+        requires within { self.place ≤ P.places self.values }
+        requires empty { batch ≡ [] }
+        requires room { 1 + 2 * P.Kind.MOST ≤ N }
         ensures { Fed S.step (P.Kind.form.bytes (P.values self.values self.place)) (S.stands sink.old) (S.stands sink.new) result }
     {
         let values = self.values;
-        let mut batch = Batch::<MAX_RUN_BYTES>::new();
         for run in self {
             put_run(&values, run, &mut batch)?;
             sink.take(batch.taken())?;

@@ -8,6 +8,7 @@ ghost use Rattle.variations.specs.PointSets.{points_of, deltas_in, required_byte
 
 use crate::delta::GlyphDelta;
 use crate::gaps::PointRuns;
+use write::batch::Batch;
 use write::piece::FontWrite;
 use write::sink::{Sink, SinkError};
 
@@ -60,7 +61,7 @@ fn feed_required<S: Sink>(deltas: &[GlyphDelta], sink: &mut S) -> Result<(), Sin
     ensures { Fed S.step (required_bytes deltas.now) (S.stands sink.old) (S.stands sink.new) result }
 {
     put_count(required_count(deltas), sink)?;
-    PointRuns::new(deltas).feed(sink)
+    PointRuns::new(deltas).feed(Batch::<257>::new(), sink)
 }
 
 impl<'a> PackedPointNumbers<'a> {

@@ -6,7 +6,7 @@ use Rattle.variations.proofs.Filling.{bytes_none, bytes_step, run_shown, run_nev
 use Rattle.variations.proofs.runs.Runs.feed.Goals as goal
 
 pub loop-run-init : goal.loop-run-init
-loop-run-init g c = rw c.into_iter-run-iterator.ensures.into_iter_gives (tt, tt, refl, c.requires, c.new-batch.ensures, part_none)
+loop-run-init g c = rw c.into_iter-run-iterator.ensures.into_iter_gives (tt, tt, refl, c.requires.within, c.requires.empty, part_none)
 
 pub put_run-requires : goal.put_run-requires
 put_run-requires g c =
@@ -23,8 +23,8 @@ returns-in_err-put_run g c =
     let v = c.args.self.values in
     let i = c.loop-run.invariant in
     let h = subst (λ s. RunAt k.form k.MOST (p.values s) (p.places s) c.loop-run.run-iterator.place c.in-Some.run') i.2 c.in-Some.ensures.steps.0 in
-    let room : 257 ≤ 257 - length c.loop-run.batch + length c.loop-run.batch = omega arith in
-    absurd (run_never_full k.form k.MOST g.met.P.Kind.RunKind.lawful (p.values v) (p.places v) _ _ h _ room i.4 c.in_err-put_run.ensures)
+    let room : g.row.N ≤ g.row.N - length c.loop-run.batch + length c.loop-run.batch = omega arith in
+    absurd (run_never_full k.form k.MOST g.met.P.Kind.RunKind.lawful (p.values v) (p.places v) _ _ h g.row.N _ c.requires.room room i.4 c.in_err-put_run.ensures)
 
 pub returns-in_err-take : goal.returns-in_err-take
 returns-in_err-take g c =
@@ -35,8 +35,8 @@ returns-in_err-take g c =
     let i = c.loop-run.invariant in
     let q = err_from_is_err_and c.from_residual-in_err-take.result c.from_residual-in_err-take.ensures.1 in
     let h = subst (λ s. RunAt k.form k.MOST (p.values s) (p.places s) c.loop-run.run-iterator.place r) i.2 c.in-Some.ensures.steps.0 in
-    let room : 257 ≤ 257 - length c.loop-run.batch + length c.loop-run.batch = omega arith in
-    let is = run_shown k.form k.MOST g.met.P.Kind.RunKind.lawful (p.values v) (p.places v) _ _ h c.taken.result.now room i.4 c.in_ok-put_run.ensures c.taken.ensures in
+    let room : g.row.N ≤ g.row.N - length c.loop-run.batch + length c.loop-run.batch = omega arith in
+    let is = run_shown k.form k.MOST g.met.P.Kind.RunKind.lawful (p.values v) (p.places v) _ _ h g.row.N c.taken.result.now c.requires.room room i.4 c.in_ok-put_run.ensures c.taken.ensures in
     rw (q.1, q.2)
     (part_stop _ (k.form.bytes (p.values v r.after)) (bytes_step k.form k.MOST g.met.P.Kind.RunKind.lawful (p.values v) (p.places v) _ r h) i.5 _ (fed_whole (Err _) (rw is at c.in_err-take.ensures)))
 
@@ -49,8 +49,8 @@ loop-run-preserved g c =
     let i = c.loop-run.invariant in
     let n = c.in-Some.ensures.steps in
     let h = subst (λ s. RunAt k.form k.MOST (p.values s) (p.places s) c.loop-run.run-iterator.place r) i.2 n.0 in
-    let room : 257 ≤ 257 - length c.loop-run.batch + length c.loop-run.batch = omega arith in
-    let is = run_shown k.form k.MOST g.met.P.Kind.RunKind.lawful (p.values v) (p.places v) _ _ h c.taken.result.now room i.4 c.in_ok-put_run.ensures c.taken.ensures in
+    let room : g.row.N ≤ g.row.N - length c.loop-run.batch + length c.loop-run.batch = omega arith in
+    let is = run_shown k.form k.MOST g.met.P.Kind.RunKind.lawful (p.values v) (p.places v) _ _ h g.row.N c.taken.result.now c.requires.room room i.4 c.in_ok-put_run.ensures c.taken.ensures in
     let fed = part_more _ (k.form.bytes (p.values v r.after)) (bytes_step k.form k.MOST g.met.P.Kind.RunKind.lawful (p.values v) (p.places v) _ r h) i.5 (rw is at c.in_ok-take.ensures) in
     (tt, tt, n.2 ∙ i.2, rw n.1 h.within, c.clear.ensures, rw n.1 fed)
 
