@@ -1,93 +1,93 @@
--- A run put into a batch, value by value.
-use Rattle.std.proofs.Common.{◌≡◌, ℕ, ◌+◌, ◌-◌, ◌*◌, ◌%◌, ◌<◌, ◌≤◌, List, [], ◌∷◌, ◌++◌, map, length, get_or, take, drop, set, ℤ, pos, negsuc, sym, refl, ap, ◌∙◌, subst, append_assoc, append-nil, arith, length-drop, length-set, length-take, w16, of_z}
-use lib.Signed.{mag}
+-- The bytes of runs, in any form.
+use Rattle.std.proofs.Common.{◌≡◌, ℕ, suc, ◌+◌, ◌-◌, ◌*◌, ◌<◌, ◌≤◌, true, List, [], ◌∷◌, ◌++◌, map, length, take, Ok, Err, sym, refl, ap, ◌∙◌, arith, length-append}
 use Rattle.std.specs.List.{AllByRecursion}
-use Rattle.std.proofs.ByRecursion.{All-get_or}
-use Rattle.std.proofs.lemmas.List.{take_more_set, take_more, drop_more, get_or-take}
-use Rattle.format.specs.Bytes.{bits8, bits16, word, joined}
-use Rattle.format.specs.Packed.{control, value_bytes}
-use Rattle.variations.specs.declared.runs.DeltaKind.{DeltaKind}
-use Rattle.variations.specs.declared.runs.DeltaKind.TheVariants.{Zeros, Bytes, Words}
-use Rattle.variations.specs.Kinds.{meant, width}
-use Rattle.variations.specs.Coded.{flag, coded}
-use Rattle.variations.specs.Runs.{Holds}
+use Rattle.std.proofs.lemmas.List.{length-take-le}
+use Rattle.format.specs.Bytes.{joined}
+use Rattle.write.specs.declared.sink.SinkError.{SinkError}
+use Rattle.write.specs.Sinks.{Standing, Fed}
+use Rattle.write.specs.Steps.{kept}
+use Rattle.write.proofs.Batches.{kept_fits, kept_never_full}
+use Rattle.variations.specs.declared.runs.Run.{Run}
+use Rattle.variations.specs.Forms.{Form, Lawful, run_bytes}
+use Rattle.variations.specs.Runs.{RunAt, run_of}
 
-pub of_z_bits : (z : ℤ) → of_z w16 z ≡ bits16 z
-of_z_bits (pos n) = refl
-of_z_bits (negsuc n) = omega arith
+no_bytes : (bs : List ℕ) → length bs ≡ 0 → bs ≡ []
+no_bytes [] h = refl
+no_bytes (b ∷ bs) h = absurd (omega arith)
 
-low_bits : (z : ℤ) → mag z < 128 → of_z w16 z % 256 ≡ bits8 z
-low_bits (pos n) h = omega arith
-low_bits (negsuc n) h = omega arith
+module _ {K V : Type 0} (f : Form K V) (k : K) where
+  -- a loop that hands over value by value: the first of n values of a list, and the m others
+  pub record Turn (vs ws : List V) (n m : ℕ) (v : V) : Type 0 where
+    pub holds : f.holds k v ≡ true
+    pub enough : m ≤ length ws
+    pub fit : AllByRecursion (λ x. f.holds k x ≡ true) (take m ws)
+    pub bytes : joined (map (f.value_bytes k) (take n vs)) ≡ f.value_bytes k v ++ joined (map (f.value_bytes k) (take m ws))
 
-pub coded_is : (k : DeltaKind) (z : ℤ) → Holds k z → coded k z ≡ value_bytes (meant k) z
-coded_is Zeros z h = refl
-coded_is Bytes z h = ap (λ n. n ∷ []) (low_bits z h)
-coded_is Words z h = ap word (of_z_bits z)
+  pub turn : (vs ws : List V) (n m : ℕ) (v : V) → vs ≡ v ∷ ws → n ≡ suc m → n ≤ length vs → AllByRecursion (λ x. f.holds k x ≡ true) (take n vs) → Turn vs ws n m v
+  turn vs ws n m v e en h fit =
+      let l = ap length e in
+      let fit' : AllByRecursion (λ x. f.holds k x ≡ true) (take (suc m) (v ∷ ws)) = rw (e, en) at fit in
+      record { holds = fit'.0; enough = omega arith; fit = fit'.1; bytes = rw (e, en) refl }
 
-pub control_is : (k : DeltaKind) (n : ℕ) → flag k + (n - 1) ≡ control (meant k) n
-control_is Zeros n = refl
-control_is Bytes n = omega arith
-control_is Words n = refl
+module _ {K V : Type 0} (f : Form K V) (most : ℕ) (law : Lawful f most) where
+  length_values : (k : K) (vs : List V) → length (joined (map (f.value_bytes k) vs)) ≡ length vs * f.width k
+  length_values k [] = omega arith
+  length_values k (v ∷ vs) =
+      omega (arith, length-append (f.value_bytes k v) (joined (map (f.value_bytes k) vs)), law.wide k v, length_values k vs)
 
-pub flag_most : (k : DeltaKind) → flag k ≤ 128
-flag_most Zeros = omega arith
-flag_most Bytes = omega arith
-flag_most Words = omega arith
+  -- a kind of no width has no bytes
+  pub values_none : (k : K) (vs : List V) → f.width k ≡ 0 → joined (map (f.value_bytes k) vs) ≡ []
+  values_none k vs h = no_bytes _ (length_values k vs ∙ ap (λ w. length vs * w) h ∙ omega arith)
 
-pub width_most : (k : DeltaKind) → width k ≤ 2
-width_most Zeros = omega arith
-width_most Bytes = omega arith
-width_most Words = omega arith
+  pub bytes_none : (vs : List V) → vs ≡ [] → f.bytes vs ≡ []
+  bytes_none vs e = ap f.bytes e ∙ law.joins [] ∙ ap (λ rs. joined (map (run_bytes f) rs)) (law.cuts [])
 
-pub take_two : (bs : List ℕ) (j x y : ℕ) → j + 1 < length bs → take (j + 2) (set (set bs j x) (j + 1) y) ≡ take j bs ++ (x ∷ y ∷ [])
-take_two bs j x y h =
-    ap (λ n. take n (set (set bs j x) (j + 1) y)) (omega arith)
-    ∙ take_more_set (set bs j x) (j + 1) y (omega (arith, length-set bs j x))
-    ∙ ap (λ l. l ++ (y ∷ [])) (take_more_set bs j x (omega arith))
-    ∙ append_assoc (take j bs) (x ∷ []) (y ∷ [])
+  module _ (values : ℕ → List V) (places p : ℕ) (r : Run K) (h : RunAt f most values places p r) where
+    pub run_bytes_is : run_bytes f (run_of r (values p)) ≡ (f.flag r.kind + (r.count - 1)) ∷ joined (map (f.value_bytes r.kind) (take r.count (values p)))
+    run_bytes_is = ap (λ n. (f.flag r.kind + (n - 1)) ∷ joined (map (f.value_bytes r.kind) (take r.count (values p)))) (length-take-le r.count (values p) h.enough)
 
--- the next of the values zs, where i are past
-pub record Next (zs ys : List ℤ) (i : ℕ) (v : ℤ) : Type 0 where
-  pub inside : i < length zs
-  pub value : get_or zs i v ≡ v
-  pub front : take (i + 1) zs ≡ take i zs ++ (v ∷ [])
-  pub back : drop (i + 1) zs ≡ ys
+    pub bytes_step : f.bytes (values p) ≡ run_bytes f (run_of r (values p)) ++ f.bytes (values r.after)
+    bytes_step =
+        law.joins (values p)
+        ∙ ap (λ rs. joined (map (run_bytes f) rs)) h.first
+        ∙ ap (λ bs. run_bytes f (run_of r (values p)) ++ bs) (sym (law.joins (values r.after)))
 
-pub next_value : (zs ys : List ℤ) (i : ℕ) (v : ℤ) → drop i zs ≡ v ∷ ys → Next zs ys i v
-next_value zs ys i v e =
-    let l = ap length e in
-    let h : i < length zs = omega (arith, length-drop i zs) in
-    let t = take_more zs i v h in
-    let d = drop_more zs i v h in
-    let g : get_or zs i v ≡ v = cc in
-    record { inside = h; value = g; front = cc; back = cc }
+    length_run : length (run_bytes f (run_of r (values p))) ≡ 1 + r.count * f.width r.kind
+    length_run =
+        let l = length-take-le r.count (values p) h.enough in
+        ap suc (length_values r.kind (take r.count (values p)) ∙ ap (λ n. n * f.width r.kind) l) ∙ omega arith
 
-pub joined_push : {X : Type 0} (f : X → List ℕ) (xs : List X) (x : X) → joined (map f (xs ++ (x ∷ []))) ≡ joined (map f xs) ++ f x
-joined_push f [] x = append-nil (f x)
-joined_push f (y ∷ xs) x = ap (λ l. f y ++ l) (joined_push f xs x) ∙ sym (append_assoc (f y) (joined (map f xs)) (f x))
+    length_step : length (f.bytes (values p)) ≡ 1 + r.count * f.width r.kind + length (f.bytes (values r.after))
+    length_step =
+        ap length bytes_step
+        ∙ length-append (run_bytes f (run_of r (values p))) (f.bytes (values r.after))
+        ∙ ap (λ n. n + length (f.bytes (values r.after))) length_run
 
-pub run_more : (k : DeltaKind) (count i at at' : ℕ) (zs ys : List ℤ) (v : ℤ) (ctl : ℕ) (bs bs' : List ℕ) → i < count → drop i zs ≡ v ∷ ys → AllByRecursion (Holds k) (take count zs) →
-    take at bs ≡ ctl ∷ joined (map (value_bytes (meant k)) (take i zs)) → take at' bs' ≡ take at bs ++ coded k v →
-    take at' bs' ≡ ctl ∷ joined (map (value_bytes (meant k)) (take (i + 1) zs))
-run_more k count i at at' zs ys v ctl bs bs' h e fit t t' =
-    let n = next_value zs ys i v e in
-    let l : i < length (take count zs) = omega (arith, length-take count zs, n.inside) in
-    let g : get_or (take count zs) i v ≡ v = get_or-take count zs i v h ∙ n.value in
-    let holds : Holds k v = subst (Holds k) g (All-get_or (Holds k) (take count zs) i v l fit) in
-    let f = value_bytes (meant k) in
-    t'
-    ∙ ap (λ b. b ++ coded k v) t
-    ∙ ap (λ b. ctl ∷ (joined (map f (take i zs)) ++ b)) (coded_is k v holds)
-    ∙ ap (λ b. ctl ∷ b) (sym (joined_push f (take i zs) v))
-    ∙ ap (λ b. ctl ∷ joined (map f b)) (sym n.front)
+    width_most : r.count * f.width r.kind ≤ 2 * r.count
+    width_most = let w = law.narrow r.kind in grind arith
 
--- a run whose values have no bytes
-pub empty_run : (k : DeltaKind) (zs : List ℤ) (n w : ℕ) → w ≡ width k → w ≡ 0 → (1 ≡ 1 + n * width k) × (joined (map (value_bytes (meant k)) zs) ≡ [])
-empty_run Zeros zs n w e z = (omega arith, none zs)
-  where
-    none : (ys : List ℤ) → joined (map (value_bytes (meant Zeros)) ys) ≡ []
-    none [] = refl
-    none (y ∷ ys) = none ys
-empty_run Bytes zs n w e z = absurd (omega arith)
-empty_run Words zs n w e z = absurd (omega arith)
+    -- an empty batch of n bytes, two for each value and one more, has room for it, and then shows it
+    run_fits : (n : ℕ) (a : Standing) → 1 + 2 * most ≤ n → n ≤ a.allowance + length a.state → a.state ≡ [] → length (run_bytes f (run_of r (values r.start))) ≤ a.allowance
+    run_fits n a big room e =
+        rw h.starts (omega (arith, length_run, width_most, h.few, big, room, ap length e))
+
+    pub run_shown : {a b : Standing} (n : ℕ) (shown : List ℕ) → 1 + 2 * most ≤ n → n ≤ a.allowance + length a.state → a.state ≡ [] → Fed kept (run_bytes f (run_of r (values r.start))) a b (Ok tt) →
+        shown ≡ b.state → shown ≡ run_bytes f (run_of r (values p))
+    run_shown {a} n shown big room e d s =
+        let bs = run_bytes f (run_of r (values r.start)) in
+        s ∙ (kept_fits (Ok tt) (run_fits n a big room e) d).1 ∙ ap (λ l. l ++ bs) e ∙ ap (λ q. run_bytes f (run_of r (values q))) h.starts
+
+    pub run_never_full : {a b : Standing} (n : ℕ) (e : SinkError) → 1 + 2 * most ≤ n → n ≤ a.allowance + length a.state → a.state ≡ [] → Fed kept (run_bytes f (run_of r (values r.start))) a b (Err e) → ⊥
+    run_never_full {a} n e big room empty d = kept_never_full e (run_fits n a big room empty) d
+
+    -- a loop over the runs that adds up their sizes
+    pub record Sized (from size n total : ℕ) : Type 0 where
+      pub further : p < r.after
+      pub bound : size + n + 3 * from ≤ 3 * r.after
+      pub sum : size + n + length (f.bytes (values r.after)) ≡ total
+
+    pub sized : (from size n total : ℕ) → n ≡ 1 + r.count * f.width r.kind → size + 3 * from ≤ 3 * p → size + length (f.bytes (values p)) ≡ total → Sized from size n total
+    sized from size n total e b s =
+        let z = length_step in
+        let x = width_most in
+        record { further = omega (arith, h.paced, h.some_values); bound = omega (arith, h.paced, h.some_values); sum = omega arith }

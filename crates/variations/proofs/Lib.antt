@@ -1,9 +1,11 @@
--- deltas
-pub mod Columns
+-- any form
+pub mod Reaching
 pub mod Cutting
-pub mod Ends
-pub mod Sizes
 pub mod Filling
+-- deltas
+pub mod Storing
+pub mod Columns
+pub mod DeltaBytes
 -- points
 pub mod GapCuts
-pub mod GapRuns
+pub mod GapBytes

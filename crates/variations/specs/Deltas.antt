@@ -1,5 +1,5 @@
 -- One coordinate of the deltas of a variation, as a list.
-use Rattle.std.specs.Prelude.{◌≡◌, ℕ, ◌<◌, ◌≤◌, Bool, cond, ◌||◌, List, [], ◌∷◌, map, length, drop, ℤ, Some, None, Option}
+use Rattle.std.specs.Prelude.{ℕ, ◌+◌, Bool, cond, ◌||◌, List, [], ◌∷◌, map, drop, ℤ, Option, position, option_map}
 use Rattle.format.specs.Account.{Delta}
 use Rattle.variations.specs.declared.delta.GlyphDelta.{GlyphDelta}
 use Rattle.variations.specs.declared.delta.Coordinate.{Coordinate}
@@ -29,7 +29,6 @@ column a all (d ∷ ds) = let r = column a all ds in cond (is_stored all d) (coo
 abbrev pub values_from : PackedDeltas → ℕ → List ℤ
 values_from c place = column c.coordinate c.all (drop place c.deltas.now)
 
--- the first of them and the place after it, or the end
-abbrev pub Stepped : PackedDeltas → ℕ → Option (ℤ × ℕ) → Type 0
-Stepped c p None = values_from c p ≡ []
-Stepped c p (Some s) = (p < s.1) × (s.1 ≤ length c.deltas.now) × (values_from c p ≡ s.0 ∷ values_from c s.1)
+-- the place of the first delta from a place on that is stored
+abbrev pub next_stored : Bool → List GlyphDelta → ℕ → Option ℕ
+next_stored all ds place = option_map (λ n. place + n) (position (is_stored all) (drop place ds))

@@ -1,7 +1,9 @@
 pub mod Deltas
-pub mod Kinds
+pub mod Forms
 pub mod Runs
-pub mod Coded
+pub mod DeltaForm
+pub mod DeltaLaws
 pub mod Gaps
-pub mod Points
+pub mod GapForm
+pub mod GapLaws
 pub mod PointSets

@@ -1,7 +1,8 @@
 -- The points that packed point numbers stand for.
-use Rattle.std.specs.Prelude.{ℕ, length}
-use Rattle.format.specs.Packed.{Points, every, only}
+use Rattle.std.specs.Prelude.{ℕ, List, length}
+use Rattle.format.specs.Packed.{Points, every, only, packed_points}
 use Rattle.format.specs.Glyphs.{required_from}
+use Rattle.variations.specs.declared.delta.GlyphDelta.{GlyphDelta}
 use Rattle.variations.specs.declared.points.PackedPointNumbers.{PackedPointNumbers}
 use Rattle.variations.specs.declared.points.PackedPointNumbers.TheVariants.{All, Required}
 use Rattle.variations.specs.Deltas.{deltas_of}
@@ -15,3 +16,7 @@ points_of (Required ds) = only (required_from 0 (deltas_of ds.now))
 abbrev pub deltas_in : PackedPointNumbers → ℕ
 deltas_in All = 0
 deltas_in (Required ds) = length ds.now
+
+-- the required points, packed
+abbrev pub required_bytes : List GlyphDelta → List ℕ
+required_bytes ds = packed_points (only (required_from 0 (deltas_of ds)))

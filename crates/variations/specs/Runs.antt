@@ -1,40 +1,35 @@
--- The run that a column has at a place.
-use Rattle.std.specs.Prelude.{◌≡◌, ℕ, ◌+◌, ◌<◌, ◌≤◌, List, [], ◌∷◌, length, take, drop, ℤ, pos, Some, None, Option}
-use Rattle.std.specs.Int.Signed.{mag}
+-- The run that values have at a place.
+use Rattle.std.specs.Prelude.{◌≡◌, ℕ, ◌+◌, ◌<◌, ◌≤◌, true, List, [], ◌∷◌, length, take, drop, Some, None, Option}
 use Rattle.std.specs.List.{AllByRecursion}
-use Rattle.format.specs.Packed.{Run, cut}
-use Rattle.variations.specs.declared.runs.DeltaKind.{DeltaKind}
-use Rattle.variations.specs.declared.runs.DeltaKind.TheVariants.{Zeros, Bytes, Words}
-use Rattle.variations.specs.declared.runs.DeltaRun.{DeltaRun}
-use Rattle.variations.specs.declared.deltas.PackedDeltas.{PackedDeltas}
-use Rattle.variations.specs.Deltas.{values_from}
-use Rattle.variations.specs.Kinds.{meant}
+use Rattle.variations.specs.declared.runs.Run.{Run}
+use Rattle.variations.specs.declared.runs.Step.{Step}
+use Rattle.variations.specs.Forms.{Cut, Form}
 
--- what a kind can hold, of values that 16 bits hold
-abbrev pub Holds : DeltaKind → ℤ → Type 0
-Holds Zeros z = z ≡ pos 0
-Holds Bytes z = mag z < 128
-Holds Words z = Unit {0}
+-- the first of the values from a place on and the place after it, or the end
+abbrev pub Stepped : {V : Type 0} → (ℕ → List V) → ℕ → ℕ → Option (Step V) → Type 0
+Stepped values places p None = values p ≡ []
+Stepped values places p (Some s) = (p < s.after) × (s.after ≤ places) × (values p ≡ s.value ∷ values s.after)
 
-abbrev pub run_of : DeltaKind → List ℤ → Run
-run_of k zs = record { of = meant k; values = zs }
+-- the run of a cut that a run of the program is, where the values from its start on are these
+abbrev pub run_of : {K V : Type 0} → Run K → List V → Cut K V
+run_of r vs = record { kind = r.kind; values = take r.count vs }
 
-pub record RunAt (c : PackedDeltas) (p : ℕ) (r : DeltaRun) : Type 0 where
+pub record RunAt {K V : Type 0} (f : Form K V) (most : ℕ) (values : ℕ → List V) (places p : ℕ) (r : Run K) : Type 0 where
   pub starts : r.start ≡ p
   pub some_values : 0 < r.count
-  pub few : r.count ≤ 64
-  pub enough : r.count ≤ length (values_from c p)
+  pub few : r.count ≤ most
+  pub enough : r.count ≤ length (values p)
   pub paced : p + r.count ≤ r.after
-  pub within : r.after ≤ length c.deltas.now
-  pub rest : drop r.count (values_from c p) ≡ values_from c r.after
-  pub fit : AllByRecursion (Holds r.kind) (take r.count (values_from c p))
-  pub first : cut (values_from c p) ≡ run_of r.kind (take r.count (values_from c p)) ∷ cut (values_from c r.after)
+  pub within : r.after ≤ places
+  pub rest : drop r.count (values p) ≡ values r.after
+  pub fit : AllByRecursion (λ v. f.holds r.kind v ≡ true) (take r.count (values p))
+  pub first : f.cut (values p) ≡ run_of r (values p) ∷ f.cut (values r.after)
 
-abbrev pub NextRun : PackedDeltas → ℕ → Option DeltaRun → Type 0
-NextRun c p None = values_from c p ≡ []
-NextRun c p (Some r) = RunAt c p r
+abbrev pub NextRun : {K V : Type 0} → Form K V → ℕ → (ℕ → List V) → ℕ → ℕ → Option (Run K) → Type 0
+NextRun f most values places p None = values p ≡ []
+NextRun f most values places p (Some r) = RunAt f most values places p r
 
 -- the place of the cursor after it gave this
-abbrev pub place_after : ℕ → Option DeltaRun → ℕ
+abbrev pub place_after : {K : Type 0} → ℕ → Option (Run K) → ℕ
 place_after p None = p
 place_after p (Some r) = r.after

@@ -1,6 +1,6 @@
 // What a variation says of one point.
-ghost use Rattle.std.specs.Prelude.{◌≡◌, true, false};
-ghost use Rattle.variations.specs.Deltas.{coordinate_of};
+ghost use Rattle.std.specs.Prelude.{◌≡◌, true, false, position};
+ghost use Rattle.variations.specs.Deltas.{coordinate_of, is_stored, next_stored};
 
 // How far a point moves, and whether the movement must be stored: one that is not required may be left out.
 #[derive(Clone, Copy, PartialEq, Eq, Debug)]
@@ -47,4 +47,20 @@ impl GlyphDelta {
             Coordinate::Y => self.y,
         }
     }
+}
+
+// The place of the first delta that is stored: of all, or of those that are required.
+fn first_stored(deltas: &[GlyphDelta], all: bool) -> Option<usize>
+    ensures { result ≡ position (is_stored all) deltas.now }
+{
+    deltas.iter().position(|d| all || d.required)
+}
+
+// The same, from a place on.
+pub(crate) fn next_stored(deltas: &[GlyphDelta], all: bool, place: usize) -> Option<usize>
+    ensures { result ≡ next_stored all deltas.now place }
+{
+    let later = deltas.get(place..)?;
+    let skipped = first_stored(later, all)?;
+    Some(place + skipped)
 }

@@ -1,8 +1,14 @@
-// One coordinate of a variation's deltas, read in place.
-ghost use Rattle.std.specs.Prelude.{◌≡◌};
-ghost use Rattle.variations.specs.Deltas.{Stepped, is_stored};
+// Packed deltas: one coordinate of a variation's deltas, read in place.
+ghost use Rattle.std.specs.Prelude.{◌≡◌, ◌*◌, ◌≤◌, length};
+ghost use Rattle.format.specs.Packed.{packed_deltas};
+ghost use Rattle.variations.specs.Deltas.{values_from};
 
-use crate::delta::{Coordinate, GlyphDelta};
+use crate::delta::{Coordinate, GlyphDelta, next_stored};
+use crate::delta_kinds::DeltaKind;
+use crate::runs::{Packed, Run, Runs, Step};
+use write::batch::Batch;
+use write::piece::FontWrite;
+use write::sink::{Sink, SinkError};
 
 // One coordinate of all the deltas, or of the required ones.
 #[derive(Clone, Copy)]
@@ -12,25 +18,55 @@ pub struct PackedDeltas<'a> {
     pub all: bool,
 }
 
-fn stored(all: bool, delta: GlyphDelta) -> bool
-    ensures { result ≡ is_stored all delta }
-{
-    all || delta.required
+pub type DeltaRun = Run<DeltaKind>;
+
+pub type DeltaRuns<'a> = Runs<PackedDeltas<'a>>;
+
+impl<'a> Packed for PackedDeltas<'a> {
+    type Kind = DeltaKind;
+
+    ghost values = { values_from };
+
+    ghost places = { λ c. length c.deltas.now };
+
+    fn step(&self, place: usize) -> Option<Step<i16>> {
+        let at = next_stored(self.deltas, self.all, place)?;
+        Some(Step {
+            value: self.deltas[at].coordinate(self.coordinate),
+            after: at + 1,
+        })
+    }
 }
 
 impl<'a> PackedDeltas<'a> {
-    // The first value from a place on, and the place after it.
-    pub(crate) fn step(&self, place: usize) -> Option<(i16, usize)>
-        ensures { Stepped self.now place result }
+    // The runs of these values, from the first.
+    pub fn iter_runs(&self) -> DeltaRuns<'a>
+        ensures values { result.values ≡ self.now }
+        ensures place { result.place ≡ 0 }
     {
-        let mut i = place;
-        while i < self.deltas.len() {
-            let d = self.deltas[i];
-            if stored(self.all, d) {
-                return Some((d.coordinate(self.coordinate), i + 1));
-            }
-            i += 1;
+        Runs {
+            values: *self,
+            place: 0,
         }
-        None
+    }
+
+    // The number of bytes of the packed values.
+    pub fn compute_size(&self) -> usize
+        ensures size { result ≡ length (packed_deltas (values_from self.now 0)) }
+        ensures most { result ≤ 3 * length self.now.deltas.now }
+    {
+        self.iter_runs().size()
+    }
+}
+
+impl<'a> FontWrite for PackedDeltas<'a> {
+    ghost bytes = { λ p. packed_deltas (values_from p 0) };
+
+    fn size(&self) -> usize {
+        self.compute_size()
+    }
+
+    fn feed<S: Sink>(&self, sink: &mut S) -> Result<(), SinkError> {
+        self.iter_runs().feed(Batch::<129>::new(), sink)
     }
 }

@@ -2,8 +2,11 @@
 #![tactic(auto)]
 
 pub mod delta;
+pub mod delta_kinds;
 pub mod deltas;
+pub mod gap_kinds;
 pub mod gaps;
+pub mod kinds;
 pub mod packing;
 pub mod points;
 pub mod runs;

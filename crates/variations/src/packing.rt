@@ -1,114 +1,89 @@
-// Packed deltas: their size, and their bytes into a sink.
-ghost use Rattle.std.specs.Prelude.{◌≡◌, ◌+◌, ◌*◌, ◌≤◌, ◌++◌, length, take};
-ghost use Rattle.format.specs.Packed.{packed_deltas, run_bytes};
-ghost use Rattle.variations.specs.Deltas.{values_from};
-ghost use Rattle.variations.specs.Kinds.{width};
-ghost use Rattle.variations.specs.Coded.{flag, coded};
+// Runs of packed values: their size, and their bytes into a sink.
+ghost use Rattle.std.specs.Prelude.{◌≡◌, ◌+◌, ◌*◌, ◌^◌, ◌<◌, ◌≤◌, [], map, length, take};
+ghost use Rattle.format.specs.Bytes.{joined};
+ghost use Rattle.write.specs.Sinks.{Fed};
+ghost use Rattle.variations.specs.Forms.{run_bytes};
 ghost use Rattle.variations.specs.Runs.{RunAt, run_of};
 
-use crate::deltas::PackedDeltas;
-use crate::runs::{DeltaKind, DeltaRun};
-use write::piece::FontWrite;
+use crate::kinds::RunKind;
+use crate::runs::{Packed, Run, Runs};
+use write::batch::Batch;
 use write::sink::{Sink, SinkError};
 
-// The control byte of a run of zeros, and of one of words; its other bits count the values.
-const DELTAS_ARE_ZERO: u8 = 0x80;
-
-const DELTAS_ARE_WORDS: u8 = 0x40;
-
-fn flag_of(kind: DeltaKind) -> u8
-    ensures { result ≡ flag kind }
-{
-    match kind {
-        DeltaKind::Zeros => DELTAS_ARE_ZERO,
-        DeltaKind::Bytes => 0,
-        DeltaKind::Words => DELTAS_ARE_WORDS,
+impl<K: RunKind> Run<K> {
+    // The number of its bytes: the control byte, and the values.
+    fn size(self) -> usize
+        requires { self.count ≤ 128 }
+        ensures { result ≡ 1 + self.count * K.form.width self.kind }
+    {
+        1 + self.count * self.kind.width()
     }
 }
 
-fn width_of(kind: DeltaKind) -> usize
-    ensures { result ≡ width kind }
+// Hands over the values of a run.
+fn put_values<P: Packed, S: Sink>(
+    values: &P,
+    run: Run<P::Kind>,
+    sink: &mut S,
+) -> Result<(), SinkError>
+    requires { RunAt P.Kind.form P.Kind.MOST (P.values values.now) (P.places values.now) run.start run }
+    ensures { Fed S.step (joined (map (P.Kind.form.value_bytes run.kind) (take run.count (P.values values.now run.start)))) (S.stands sink.old) (S.stands sink.new) result }
 {
-    match kind {
-        DeltaKind::Zeros => 0,
-        DeltaKind::Bytes => 1,
-        DeltaKind::Words => 2,
+    let mut place = run.start;
+    for _ in 0..run.count {
+        let Some(step) = values.step(place) else {
+            break;
+        };
+        run.kind.put(step.value, sink)?;
+        place = step.after;
     }
+    Ok(())
 }
 
-// Puts a value at a place of the batch, as its kind holds it; answers the place after it.
-fn put_value(kind: DeltaKind, v: i16, at: usize, batch: &mut [u8; 129]) -> usize
-    requires { at + width kind ≤ 129 }
-    ensures end { result ≡ at + width kind }
-    ensures put { take result batch.new ≡ take at batch.old ++ coded kind v }
+// Hands over a run: its control byte, and then its values.
+fn put_run<P: Packed, S: Sink>(values: &P, run: Run<P::Kind>, sink: &mut S) -> Result<(), SinkError>
+    requires { RunAt P.Kind.form P.Kind.MOST (P.values values.now) (P.places values.now) run.start run }
+    ensures { Fed S.step (run_bytes P.Kind.form (run_of run (P.values values.now run.start))) (S.stands sink.old) (S.stands sink.new) result }
 {
-    let [high, low] = v.to_be_bytes();
-    match kind {
-        DeltaKind::Zeros => at,
-        DeltaKind::Bytes => {
-            batch[at] = low;
-            at + 1
-        }
-        DeltaKind::Words => {
-            batch[at] = high;
-            batch[at + 1] = low;
-            at + 2
-        }
+    sink.take(&[run.kind.flag() + (run.count - 1) as u8])?;
+    if run.kind.width() == 0 {
+        return Ok(());
     }
+    put_values(values, run, sink)
 }
 
-impl<'a> PackedDeltas<'a> {
-    // The number of bytes of the packed values.
-    pub fn compute_size(&self) -> usize
-        ensures size { result ≡ length (packed_deltas (values_from self.now 0)) }
-        ensures most { result ≤ 3 * length self.now.deltas.now }
+impl<P: Packed> Runs<P> {
+    // The number of bytes of the runs.
+    pub(crate) fn size(self) -> usize
+        requires within { self.place ≤ P.places self.values }
+        requires room { 3 * P.places self.values < 2 ^ 64 }
+        ensures size { result ≡ length (P.Kind.form.bytes (P.values self.values self.place)) }
+        ensures most { result + 3 * self.place ≤ 3 * P.places self.values }
     {
         let mut size = 0;
-        let mut runs = self.iter_runs();
-        while let Some(run) = runs.next() {
-            size += 1 + run.count * width_of(run.kind);
+        for run in self {
+            size += run.size();
         }
         size
     }
 
-    // Puts a run of these values into the batch; answers how many bytes it has.
-    fn put_run(&self, run: DeltaRun, batch: &mut [u8; 129]) -> usize
-        requires { RunAt self.now run.start run }
-        ensures size { result ≡ 1 + run.count * width run.kind }
-        ensures bytes { take result batch.new ≡ run_bytes (run_of run.kind (take run.count (values_from self.now run.start))) }
+    // Hands over the bytes of the runs, those of each together: the batch has room for a control byte and two bytes for
+    // each value.
+    pub(crate) fn feed<const N: usize, S: Sink>(
+        self,
+        mut batch: Batch<N>,
+        sink: &mut S,
+    ) -> Result<(), SinkError>
+        requires within { self.place ≤ P.places self.values }
+        requires empty { batch ≡ [] }
+        requires room { 1 + 2 * P.Kind.MOST ≤ N }
+        ensures { Fed S.step (P.Kind.form.bytes (P.values self.values self.place)) (S.stands sink.old) (S.stands sink.new) result }
     {
-        batch[0] = flag_of(run.kind) + (run.count - 1) as u8;
-        if width_of(run.kind) == 0 {
-            return 1;
-        }
-        let mut at = 1;
-        let mut p = run.start;
-        let mut i = 0;
-        while i < run.count {
-            let Some((v, after)) = self.step(p) else {
-                break;
-            };
-            at = put_value(run.kind, v, at, batch);
-            p = after;
-            i += 1;
-        }
-        at
-    }
-}
-
-impl<'a> FontWrite for PackedDeltas<'a> {
-    ghost bytes = { λ p. packed_deltas (values_from p 0) };
-
-    fn size(&self) -> usize {
-        self.compute_size()
-    }
-
-    fn feed<S: Sink>(&self, sink: &mut S) -> Result<(), SinkError> {
-        let mut batch = [0u8; 129];
-        let mut runs = self.iter_runs();
-        while let Some(run) = runs.next() {
-            let n = self.put_run(run, &mut batch);
-            sink.take(&batch[0..n])?;
+        let values = self.values;
+        for run in self {
+            put_run(&values, run, &mut batch)?;
+            sink.take(batch.taken())?;
+            batch.clear();
         }
         Ok(())
     }

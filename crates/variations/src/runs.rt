@@ -1,147 +1,101 @@
-// Runs of packed deltas, one at a time.
-ghost use Rattle.std.specs.Prelude.{◌≡◌, ◌+◌, ◌≤◌, length, drop};
-ghost use Rattle.variations.specs.Deltas.{values_from};
-ghost use Rattle.variations.specs.Kinds.{kind_of, kind_ahead, stops, reach};
-ghost use Rattle.variations.specs.Runs.{NextRun, place_after};
+// Runs of packed values, one at a time.
+ghost use Rattle.std.specs.Prelude.{◌≡◌, ℕ, ◌+◌, ◌-◌, ◌≤◌, List, length, drop};
+ghost use Rattle.std.specs.Iterator.{at_most};
+ghost use Rattle.variations.specs.Forms.{kind_ahead, reach};
+ghost use Rattle.variations.specs.Runs.{Stepped, NextRun, place_after};
 
-use crate::deltas::PackedDeltas;
+use crate::kinds::RunKind;
 
-// A run holds at most this many values: its control byte has six bits for their number.
-const MAX_VALUES_PER_RUN: usize = 64;
+// A value, and the place after it.
+#[derive(Clone, Copy)]
+pub struct Step<V> {
+    pub value: V,
+    pub after: usize,
+}
 
-// How the values of a run are held: not at all, in a byte each, in a word each.
-#[derive(Clone, Copy, PartialEq, Eq, Debug)]
-pub enum DeltaKind {
-    Zeros,
-    Bytes,
-    Words,
+// Values that are packed in runs, read in place. An implementation says by `values` which there are from a place on.
+pub trait Packed: Copy {
+    type Kind: RunKind;
+
+    ghost values: { Self → ℕ → List Self.Kind.Value };
+
+    ghost places: { Self → ℕ };
+
+    // The first value from a place on, and the place after it.
+    fn step(&self, place: usize) -> Option<Step<<Self::Kind as RunKind>::Value>>
+        ensures { Stepped (values self.now) (places self.now) place result };
 }
 
 // A run: its kind, how many values it has, the place of the first, and the place after the last of them.
 #[derive(Clone, Copy)]
-pub struct DeltaRun {
-    pub kind: DeltaKind,
+pub struct Run<K> {
+    pub kind: K,
     pub count: usize,
     pub start: usize,
     pub after: usize,
 }
 
-// The runs of packed deltas, in order, from a place on.
+// The runs of packed values, in order, from a place on.
 #[derive(Clone, Copy)]
-pub struct DeltaRuns<'a> {
-    pub(crate) values: PackedDeltas<'a>,
+pub struct Runs<P> {
+    pub(crate) values: P,
     pub(crate) place: usize,
 }
 
-// The smallest kind that holds a value.
-fn kind_of(v: i16) -> DeltaKind
-    ensures { result ≡ kind_of v }
+fn kind_ahead<K: RunKind>(step: Option<Step<K::Value>>) -> Option<K>
+    ensures { result ≡ kind_ahead K.form step }
 {
-    if v == 0 {
-        DeltaKind::Zeros
-    } else if v >= -128 && v <= 127 {
-        DeltaKind::Bytes
-    } else {
-        DeltaKind::Words
-    }
+    step.map(|s| K::of(s.value))
 }
 
-fn kind_ahead(step: Option<(i16, usize)>) -> Option<DeltaKind>
-    ensures { result ≡ kind_ahead step }
-{
-    match step {
-        Some((v, _)) => Some(kind_of(v)),
-        None => None,
-    }
-}
-
-// Does a run stop before a value of kind `this`, with what follows that value? One zero is best stored among bytes, but
-// two begin a run; among words each zero does, and so do two values that bytes would hold.
-fn stops_before(run: DeltaKind, this: DeltaKind, next: Option<DeltaKind>) -> bool
-    ensures { result ≡ stops run this next }
-{
-    match (run, this) {
-        (DeltaKind::Zeros, DeltaKind::Zeros) => false,
-        (DeltaKind::Zeros, _) => true,
-        (DeltaKind::Bytes, DeltaKind::Zeros) => matches!(next, Some(DeltaKind::Zeros)),
-        (DeltaKind::Bytes, DeltaKind::Bytes) => false,
-        (DeltaKind::Bytes, DeltaKind::Words) => true,
-        (DeltaKind::Words, DeltaKind::Zeros) => true,
-        (DeltaKind::Words, DeltaKind::Bytes) => matches!(
-            next,
-            Some(DeltaKind::Zeros | DeltaKind::Bytes)
-        ),
-        (DeltaKind::Words, DeltaKind::Words) => false,
-    }
-}
-
-impl<'a> PackedDeltas<'a> {
+impl<P: Packed> Runs<P> {
     // How many values the run has whose first value lies before `place`, and the place after them.
-    fn run_end(&self, kind: DeltaKind, place: usize) -> (usize, usize)
-        requires { place ≤ length self.now.deltas.now }
-        ensures count { result.0 ≡ 1 + reach kind 63 (values_from self.now place) }
-        ensures end { values_from self.now result.1 ≡ drop (reach kind 63 (values_from self.now place)) (values_from self.now place) }
+    fn run_end(&self, kind: P::Kind, place: usize) -> (usize, usize)
+        requires { place ≤ P.places self.now.values }
+        ensures count { result.0 ≡ 1 + reach P.Kind.form kind (P.Kind.MOST - 1) (P.values self.now.values place) }
+        ensures end { P.values self.now.values result.1 ≡ drop (reach P.Kind.form kind (P.Kind.MOST - 1) (P.values self.now.values place)) (P.values self.now.values place) }
         ensures paced { place + result.0 ≤ result.1 + 1 }
-        ensures within { result.1 ≤ length self.now.deltas.now }
+        ensures within { result.1 ≤ P.places self.now.values }
     {
-        let mut n = 1;
-        let mut at = place;
-        let mut this = self.step(place);
-        while n < MAX_VALUES_PER_RUN {
-            let Some((v, after)) = this else {
-                break;
+        let mut end = place;
+        let mut this = self.values.step(place);
+        for n in 1..P::Kind::MOST {
+            let Some(step) = this else {
+                return (n, end);
             };
-            let next = self.step(after);
-            if stops_before(kind, kind_of(v), kind_ahead(next)) {
-                break;
+            let next = self.values.step(step.after);
+            if kind.stops_before(P::Kind::of(step.value), kind_ahead(next)) {
+                return (n, end);
             }
-            n += 1;
-            at = after;
+            end = step.after;
             this = next;
         }
-        (n, at)
-    }
-
-    // The run that starts at a place.
-    fn next_run(&self, place: usize) -> Option<DeltaRun>
-        ensures { NextRun self.now place result }
-    {
-        let Some((v, second)) = self.step(place) else {
-            return None;
-        };
-        let kind = kind_of(v);
-        let (count, after) = self.run_end(kind, second);
-        Some(DeltaRun {
-            kind,
-            count,
-            start: place,
-            after,
-        })
-    }
-
-    // The runs of these values, from the first.
-    pub fn iter_runs(&self) -> DeltaRuns<'a>
-        ensures values { result.values ≡ self.now }
-        ensures place { result.place ≡ 0 }
-    {
-        DeltaRuns {
-            values: *self,
-            place: 0,
-        }
+        (P::Kind::MOST, end)
     }
 }
 
-impl<'a> DeltaRuns<'a> {
+impl<P: Packed> Iterator for Runs<P> {
+    type Item = Run<P::Kind>;
+
+    ghost next_gives = { λ s r t.
+        NextRun P.Kind.form P.Kind.MOST (P.values s.values) (P.places s.values) s.place r
+        × (t.place ≡ place_after s.place r)
+        × (t.values ≡ s.values) };
+
+    ghost remaining = { λ s. at_most (P.places s.values - s.place) };
+
     // The next run, or nothing after the last.
-    pub fn next(&mut self) -> Option<DeltaRun>
-        ensures run { NextRun self.old.values self.old.place result }
-        ensures place { self.new.place ≡ place_after self.old.place result }
-        ensures values { self.new.values ≡ self.old.values }
-    {
-        let Some(run) = self.values.next_run(self.place) else {
-            return None;
+    fn next(&mut self) -> Option<Run<P::Kind>> {
+        let first = self.values.step(self.place)?;
+        let kind = P::Kind::of(first.value);
+        let (count, after) = self.run_end(kind, first.after);
+        let run = Run {
+            kind,
+            count,
+            start: self.place,
+            after,
         };
-        self.place = run.after;
+        self.place = after;
         Some(run)
     }
 }

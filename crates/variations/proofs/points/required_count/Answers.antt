@@ -1,15 +1,18 @@
-use Rattle.std.proofs.Common.{length, ap, arith}
-use Rattle.variations.proofs.GapCuts.{count_more, one_most, points_end}
+use Rattle.std.proofs.Common.{◌<◌, ◌^◌, sum_by, ◌∙◌, arith, rules, tests}
+use Rattle.std.proofs.lemmas.Iterator.{YieldsList-from_slice, YieldsList-from_map}
+use Rattle.std.proofs.lemmas.Iterator.Consumers.{sum_by_from_yields_List, fits_by_from_yields_list}
+use Rattle.variations.proofs.GapBytes.{one_if_required, count_is, count_most}
 use Rattle.variations.proofs.points.required_count.Goals as goal
 
-pub loop-d-preserved : goal.loop-d-preserved
-loop-d-preserved c =
-    let i = c.loop-d.invariant in (
-      omega (arith, one_most c.args.deltas.now c.loop-d.d-index _ c.one_if-n.result c.one_if-n.ensures),
-      count_more c.args.deltas.now c.loop-d.d-index _ c.loop-d.n c.one_if-n.result _ c.loop-d-test.true c.one_if-n.ensures i.1,
-    )
+pub sum-requires-clause-fits : goal.sum-requires-clause-fits
+sum-requires-clause-fits c =
+    let ds = c.args.deltas.now in
+    let fits : sum_by one_if_required ds < 2 ^ 64 = omega (arith, count_is ds, count_most 0 ds) in
+    fits_by_from_yields_list one_if_required ds c.map.result _ (YieldsList-from_map _ one_if_required (YieldsList-from_slice ds cc) c.map.ensures.closure (λ x r q k. search (rules, tests))) fits
 
 pub returns : goal.returns
 returns c =
-    let e = ap length (points_end c.args.deltas.now c.loop-d.d-index c.loop-d-test.false) in
-    omega (arith, c.loop-d.invariant.1)
+    let ds = c.args.deltas.now in
+    sum_by_from_yields_List one_if_required ds c.map.result c.sum.result c.sum.ensures.ran
+    (YieldsList-from_map _ one_if_required (YieldsList-from_slice ds cc) c.map.ensures.closure (λ x r q k. search (rules, tests)))
+    ∙ count_is ds
