@@ -5,5 +5,6 @@ pub mod axis;
 pub mod cells;
 pub mod refusal;
 pub mod set;
+pub mod stores;
 pub mod tent;
 pub mod view;

@@ -37,25 +37,25 @@ impl<'a> Set<'a> {
     // Puts one value of each tent behind those in use, from the place `at` on.
     fn put_values(&mut self, at: usize, tents: &[Tent], which: Part)
         requires behind { 3 * self.old.axes.count * self.old.added ≤ at }
-        requires room { at + length tents.now ≤ length self.old.values.now }
-        ensures len { length self.new.values.now ≡ length self.old.values.now }
-        ensures is { stores self.new ≡ with_values (stores self.old) (paste self.old.values.now at (map (part_of which) tents.now) (length tents.now)) }
+        requires room { at + length tents.now ≤ length self.old.stores.values.now }
+        ensures len { length self.new.stores.values.now ≡ length self.old.stores.values.now }
+        ensures is { stores self.new ≡ with_values (stores self.old) (paste self.old.stores.values.now at (map (part_of which) tents.now) (length tents.now)) }
         ensures short { AllByRecursion Short (map (part_of which) tents.now) }
     {
         for i in 0..tents.len() {
-            self.values[at + i] = tents[i].part(which);
+            self.stores.values[at + i] = tents[i].part(which);
         }
     }
 
     // Puts the deltas behind those in use.
     fn put_deltas(&mut self, deltas: &[GlyphDelta])
-        requires { self.old.moved + length deltas.now ≤ length self.old.deltas.now }
-        ensures is { stores self.new ≡ with_deltas (stores self.old) (paste self.old.deltas.now self.old.moved deltas.now (length deltas.now)) }
+        requires { self.old.moved + length deltas.now ≤ length self.old.stores.deltas.now }
+        ensures is { stores self.new ≡ with_deltas (stores self.old) (paste self.old.stores.deltas.now self.old.moved deltas.now (length deltas.now)) }
         ensures short { AllByRecursion (λ d. ShortDelta (delta_of d)) deltas.now }
     {
         let at = self.moved;
         for i in 0..deltas.len() {
-            self.deltas[at + i] = copied(&deltas[i]);
+            self.stores.deltas[at + i] = copied(&deltas[i]);
         }
     }
 
@@ -65,7 +65,7 @@ impl<'a> Set<'a> {
         ensures is { result ≡ last_cell (stores self.now) }
         ensures few { result.variations ≤ self.now.added }
     {
-        self.glyphs[self.begun - 1]
+        self.stores.glyphs[self.begun - 1]
     }
 
     // Whether the glyph begun last has a variation, and its first has another number of deltas.
@@ -77,7 +77,7 @@ impl<'a> Set<'a> {
         if count == 0 {
             return false;
         }
-        self.variations[self.added - count].deltas as usize != n
+        self.stores.variations[self.added - count].deltas as usize != n
     }
 
     // Whether there are too few free cells for a variation with n deltas.
@@ -85,13 +85,13 @@ impl<'a> Set<'a> {
         ensures { result ≡ (nat_lt (account_of self.now).free.variation 1 || nat_lt (account_of self.now).free.axis (3 * (account_of self.now).axes) || nat_lt (account_of self.now).free.delta n) }
     {
         let each = 3 * self.axes.get() as usize;
-        if self.variations.len() - self.added < 1 {
+        if self.stores.variations.len() - self.added < 1 {
             return true;
         }
-        if self.values.len() - each * self.added < each {
+        if self.stores.values.len() - each * self.added < each {
             return true;
         }
-        self.deltas.len() - self.moved < n
+        self.stores.deltas.len() - self.moved < n
     }
 
     // Tests a variation, in the order of the refusals' numbers.
@@ -125,6 +125,7 @@ impl<'a> Set<'a> {
     pub(crate) fn used_values(&self) -> usize
         ensures { result ≡ 3 * self.now.axes.count * self.now.added }
     {
+        let _values: &[i16] = self.stores.values;
         3 * self.axes.get() as usize * self.added
     }
 
@@ -144,13 +145,13 @@ impl<'a> Set<'a> {
         let place = self.added;
         let start = self.moved;
         let last = self.begun - 1;
-        let cell = self.glyphs[last];
-        self.variations[place] = VariationCell {
+        let cell = self.stores.glyphs[last];
+        self.stores.variations[place] = VariationCell {
             deltas: deltas.len() as u16,
             start,
             stored,
         };
-        self.glyphs[last] = GlyphCell {
+        self.stores.glyphs[last] = GlyphCell {
             number: cell.number,
             variations: cell.variations + 1,
             first: cell.first,

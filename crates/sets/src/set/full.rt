@@ -14,7 +14,7 @@ impl<'a> Set<'a> {
         ensures { result ≡ all (λ g. nat_lt g.number (length (glyphs_of self.now))) (glyphs_of self.now) }
     {
         for i in 0..self.begun {
-            if self.glyphs[i].number as usize >= self.begun {
+            if self.stores.glyphs[i].number as usize >= self.begun {
                 return false;
             }
         }

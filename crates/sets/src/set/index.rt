@@ -10,17 +10,17 @@ use super::Set;
 impl<'a> Set<'a> {
     // The first link of bucket b: its head, unless no glyph has written that.
     pub(crate) fn chain(&self, b: usize) -> usize
-        requires { b < length self.now.glyphs.now }
-        ensures { result ≡ previous (number_at self.now.glyphs.now) (length self.now.glyphs.now) b self.now.begun }
+        requires { b < length self.now.stores.glyphs.now }
+        ensures { result ≡ previous (number_at self.now.stores.glyphs.now) (length self.now.stores.glyphs.now) b self.now.begun }
     {
-        let x = self.glyphs[b].head;
+        let x = self.stores.glyphs[b].head;
         if x == 0 {
             return 0;
         }
         if x > self.begun {
             return 0;
         }
-        if self.glyphs[x - 1].number as usize % self.glyphs.len() != b {
+        if self.stores.glyphs[x - 1].number as usize % self.stores.glyphs.len() != b {
             return 0;
         }
         x
@@ -29,19 +29,19 @@ impl<'a> Set<'a> {
     // The place of the glyph with the number. Numbers that leave the same remainder modulo the number n of cells are
     // looked at; of those below 65,535 there are at most 65,535 / n + 1, and no more than n, so 256 at most.
     pub(crate) fn find(&self, number: usize) -> Option<usize>
-        ensures { MatchOption result ((g : ℕ) → g < self.now.begun → number_at self.now.glyphs.now g ≢ number) (λ p. (p < self.now.begun) × (number_at self.now.glyphs.now p ≡ number)) }
+        ensures { MatchOption result ((g : ℕ) → g < self.now.begun → number_at self.now.stores.glyphs.now g ≢ number) (λ p. (p < self.now.begun) × (number_at self.now.stores.glyphs.now p ≡ number)) }
     {
-        let n = self.glyphs.len();
+        let n = self.stores.glyphs.len();
         if n == 0 {
             return None;
         }
         let mut at = self.chain(number % n);
         while at > 0 {
             let j = at - 1;
-            if self.glyphs[j].number as usize == number {
+            if self.stores.glyphs[j].number as usize == number {
                 return Some(j);
             }
-            at = self.glyphs[j].next;
+            at = self.stores.glyphs[j].next;
         }
         None
     }

@@ -41,26 +41,27 @@ impl<'a> Set<'a> {
     fn place(&self, i: usize) -> usize
         requires { i < self.now.added }
         ensures is { result ≡ 3 * self.now.axes.count * i }
-        ensures fits { result + 3 * self.now.axes.count ≤ length self.now.values.now }
+        ensures fits { result + 3 * self.now.axes.count ≤ length self.now.stores.values.now }
     {
+        let _values: &[i16] = self.stores.values;
         3 * self.axis_count() as usize * i
     }
 
     // One value for each axis, from the place `at` on.
     fn row(&self, at: usize) -> &[i16]
-        requires { at + self.now.axes.count ≤ length self.now.values.now }
-        ensures { result.now ≡ take self.now.axes.count (drop at self.now.values.now) }
+        requires { at + self.now.axes.count ≤ length self.now.stores.values.now }
+        ensures { result.now ≡ take self.now.axes.count (drop at self.now.stores.values.now) }
     {
         let a = self.axis_count() as usize;
-        &self.values[at..at + a]
+        &self.stores.values[at..at + a]
     }
 
     // The n deltas from the place `start` on.
     fn deltas_from(&self, start: usize, n: usize) -> &[GlyphDelta]
-        requires { start + n ≤ length self.now.deltas.now }
-        ensures { result.now ≡ take n (drop start self.now.deltas.now) }
+        requires { start + n ≤ length self.now.stores.deltas.now }
+        ensures { result.now ≡ take n (drop start self.now.stores.deltas.now) }
     {
-        &self.deltas[start..start + n]
+        &self.stores.deltas[start..start + n]
     }
 
     // The deltas of variation i.
@@ -68,7 +69,7 @@ impl<'a> Set<'a> {
         requires { i < self.now.added }
         ensures { deltas_of result.now ≡ (get_or (all_variations (glyphs_of self.now)) i no_variation).deltas }
     {
-        let cell = self.variations[i];
+        let cell = self.stores.variations[i];
         self.deltas_from(cell.start, cell.deltas as usize)
     }
 
@@ -78,6 +79,7 @@ impl<'a> Set<'a> {
         ensures { Shows (account_of self.now).axes result (slice_index_or (all_variations (glyphs_of self.now)) i no_variation) }
     {
         let a = self.axis_count() as usize;
+        let _values: &[i16] = self.stores.values;
         let at = self.place(i);
         let peak = self.row(at);
         let starts = self.row(at + a);
@@ -87,7 +89,7 @@ impl<'a> Set<'a> {
             starts,
             ends,
             deltas: self.deltas_at(i),
-            stored: self.variations[i].stored,
+            stored: self.stores.variations[i].stored,
         }
     }
 
@@ -107,7 +109,7 @@ impl<'a> Set<'a> {
     {
         match self.find(number) {
             Some(p) => {
-                let cell = self.glyphs[p];
+                let cell = self.stores.glyphs[p];
                 Some(Span {
                     first: cell.first,
                     count: cell.variations as usize,
@@ -124,8 +126,8 @@ impl<'a> Set<'a> {
         if at >= self.glyph_count() {
             return None;
         }
-        let first = self.glyphs[at].first;
-        let count = self.glyphs[at].variations as usize;
+        let first = self.stores.glyphs[at].first;
+        let count = self.stores.glyphs[at].variations as usize;
         Some(Span { first, count })
     }
 
@@ -135,6 +137,6 @@ impl<'a> Set<'a> {
         ensures rows { rows (account_of self.now).axes result.now (variation_count (glyphs_of self.now)) ≡ peaks_seen (glyphs_of self.now) }
     {
         let n = self.used_values();
-        &self.values[0..n]
+        &self.stores.values[0..n]
     }
 }

@@ -6,9 +6,9 @@ use Rattle.sets.proofs.set.Set.has.Goals as goal
 pub returns-in-Some : goal.returns-in-Some
 returns-in-Some c =
     let s = c.args.self.now in
-    begun_at c.args.number s.begun s.glyphs.now (dealt (stores s)) c.in-Some.field-0 s.within.0 c.in-Some.ensures.0 c.in-Some.ensures.1
+    begun_at c.args.number s.begun s.stores.glyphs.now (dealt (stores s)) c.in-Some.field-0 s.within.0 c.in-Some.ensures.0 c.in-Some.ensures.1
 
 pub returns-in-None : goal.returns-in-None
 returns-in-None c =
     let s = c.args.self.now in
-    begun_not c.args.number s.begun s.glyphs.now (dealt (stores s)) s.within.0 c.in-None.ensures
+    begun_not c.args.number s.begun s.stores.glyphs.now (dealt (stores s)) s.within.0 c.in-None.ensures

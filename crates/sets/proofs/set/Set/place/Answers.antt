@@ -8,7 +8,7 @@ overflow_mul-result-2 c =
     let s = c.args.self.now in
     let v = values_fit (stores s) (sound_of s) c.args.i c.requires in
     let e : 3 * c.axis_count.result * c.args.i ≡ 3 * s.axes.count * c.args.i = ap (λ (x : ℕ). 3 * x * c.args.i) c.axis_count.ensures.is in
-    let k : 3 * c.axis_count.result * c.args.i ≤ length s.values.now = omega arith in
+    let k : 3 * c.axis_count.result * c.args.i ≤ length s.stores.values.now = omega arith in
     search rules
 
 pub returns : goal.returns

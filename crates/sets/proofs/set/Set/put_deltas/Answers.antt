@@ -24,7 +24,7 @@ invariant_of-self c =
     record { within = h.within; counted = h.counted; placed = h.placed; chained = h.chained; numbered = h.numbered; few = h.few; chosen = h.chosen; short = h.short }
 
 pub loop-i-init : goal.loop-i-init
-loop-i-init c = (ap (with_deltas (stores c.args.self.now)) (paste_none c.args.self.now.deltas.now c.args.self.now.moved c.args.deltas.now), tt)
+loop-i-init c = (ap (with_deltas (stores c.args.self.now)) (paste_none c.args.self.now.stores.deltas.now c.args.self.now.moved c.args.deltas.now), tt)
 
 pub loop-i-preserved : goal.loop-i-preserved
 loop-i-preserved c =
@@ -32,8 +32,8 @@ loop-i-preserved c =
     let at = c.args.self.now.moved in
     let ds = c.args.deltas.now in (
       ap (λ (t : Stores). with_deltas t (set t.deltas (at + i) c.copied.result)) c.loop-i.invariant.0
-          ∙ ap (λ (d : GlyphDelta). with_deltas (stores c.args.self.now) (set (paste c.args.self.now.deltas.now at ds i) (at + i) d)) c.copied.ensures.is
-          ∙ ap (with_deltas (stores c.args.self.now)) (paste_more c.args.self.now.deltas.now at ds i nothing (omega arith) (omega arith)),
+          ∙ ap (λ (d : GlyphDelta). with_deltas (stores c.args.self.now) (set (paste c.args.self.now.stores.deltas.now at ds i) (at + i) d)) c.copied.ensures.is
+          ∙ ap (with_deltas (stores c.args.self.now)) (paste_more c.args.self.now.stores.deltas.now at ds i nothing (omega arith) (omega arith)),
       All-more (λ (d : GlyphDelta). ShortDelta (delta_of d)) ds i nothing (omega arith) c.loop-i.invariant.1 (subst (λ (d : GlyphDelta). ShortDelta (delta_of d)) c.copied.ensures.is c.copied.ensures.short),
     )
 

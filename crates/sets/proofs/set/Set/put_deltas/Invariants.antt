@@ -9,5 +9,5 @@ use Rattle.sets.proofs.set.Set.put_deltas.Given as goal
 
 abbrev pub invariant-loop-i : goal.invariant-loop-i
 invariant-loop-i l =
-    (stores l.self ≡ with_deltas (stores l.initial.self) (paste l.initial.self.deltas.now l.initial.self.moved l.deltas l.i))
+    (stores l.self ≡ with_deltas (stores l.initial.self) (paste l.initial.self.stores.deltas.now l.initial.self.moved l.deltas l.i))
     × AllByRecursion (λ d. ShortDelta (delta_of d)) (take l.i l.deltas)

@@ -21,7 +21,7 @@ invariant_of-self c =
     record { within = h.within; counted = h.counted; placed = h.placed; chained = h.chained; numbered = h.numbered; few = h.few; chosen = h.chosen; short = h.short }
 
 pub loop-i-init : goal.loop-i-init
-loop-i-init c = (ap (with_values (stores c.args.self.now)) (paste_none c.args.self.now.values.now c.args.at (map (part_of c.args.which) c.args.tents.now)), tt)
+loop-i-init c = (ap (with_values (stores c.args.self.now)) (paste_none c.args.self.now.stores.values.now c.args.at (map (part_of c.args.which) c.args.tents.now)), tt)
 
 pub loop-i-preserved : goal.loop-i-preserved
 loop-i-preserved c =
@@ -31,8 +31,8 @@ loop-i-preserved c =
     let l = length-map c.args.tents.now (part_of c.args.which) in
     let v : c.part.result ≡ get_or xs i (pos 0) = c.part.ensures ∙ sym (get_or-map (part_of c.args.which) c.args.tents.now i _ (pos 0) c.loop-i-test.true) in (
       ap (λ (t : Stores). with_values t (set t.values (c.args.at + i) (to_z w16 (of_z w16 c.part.result)))) c.loop-i.invariant.0
-          ∙ ap (λ z. with_values (stores c.args.self.now) (set (paste c.args.self.now.values.now c.args.at xs i) (c.args.at + i) z)) (back ∙ v)
-          ∙ ap (with_values (stores c.args.self.now)) (paste_more c.args.self.now.values.now c.args.at xs i (pos 0) (omega arith) (omega arith)),
+          ∙ ap (λ z. with_values (stores c.args.self.now) (set (paste c.args.self.now.stores.values.now c.args.at xs i) (c.args.at + i) z)) (back ∙ v)
+          ∙ ap (with_values (stores c.args.self.now)) (paste_more c.args.self.now.stores.values.now c.args.at xs i (pos 0) (omega arith) (omega arith)),
       All-more Short xs i (pos 0) (omega arith) c.loop-i.invariant.1 (subst Short v c.part.type_inv),
     )
 
@@ -41,7 +41,7 @@ returns c =
     let m = length-map c.args.tents.now (part_of c.args.which) in
     let xs = map (part_of c.args.which) c.args.tents.now in
     record {
-      len = ap (λ (t : Stores). length t.values) c.loop-i.invariant.0 ∙ length-paste c.args.self.now.values.now c.args.at xs c.loop-i.i (omega arith) (omega arith);
+      len = ap (λ (t : Stores). length t.values) c.loop-i.invariant.0 ∙ length-paste c.args.self.now.stores.values.now c.args.at xs c.loop-i.i (omega arith) (omega arith);
       is = search rules;
       short = subst (λ (zs : List ℤ). AllByRecursion Short zs) (take_all c.loop-i.i xs (omega arith)) c.loop-i.invariant.1;
     }

@@ -9,5 +9,5 @@ use Rattle.sets.proofs.set.Set.put_values.Given as goal
 
 abbrev pub invariant-loop-i : goal.invariant-loop-i
 invariant-loop-i l =
-    (stores l.self ≡ with_values (stores l.initial.self) (paste l.initial.self.values.now l.at (map (part_of l.which) l.tents) l.i))
+    (stores l.self ≡ with_values (stores l.initial.self) (paste l.initial.self.stores.values.now l.at (map (part_of l.which) l.tents) l.i))
     × AllByRecursion Short (take l.i (map (part_of l.which) l.tents))

@@ -17,9 +17,9 @@ returns c =
     let a : c.axis_count-a.result ≡ s.axes.count = c.axis_count-a.ensures.is in
     let p : c.row-peak.result.now ≡ peak v = c.row-peak.ensures ∙ peak_shown (stores s) (sound_of s) i at c.requires is in
     let b : c.row-starts.result.now ≡ map (λ t. t.start) v.tents =
-    c.row-starts.ensures ∙ ap (λ (x : ℕ). take s.axes.count (drop (at + x) s.values.now)) a ∙ starts_shown (stores s) (sound_of s) i at c.requires is in
+    c.row-starts.ensures ∙ ap (λ (x : ℕ). take s.axes.count (drop (at + x) s.stores.values.now)) a ∙ starts_shown (stores s) (sound_of s) i at c.requires is in
     let e : c.row-ends.result.now ≡ map (λ t. t.end) v.tents =
-    c.row-ends.ensures ∙ ap (λ (x : ℕ). take s.axes.count (drop (at + 2 * x) s.values.now)) a ∙ ends_shown (stores s) (sound_of s) i at c.requires is in
+    c.row-ends.ensures ∙ ap (λ (x : ℕ). take s.axes.count (drop (at + 2 * x) s.stores.values.now)) a ∙ ends_shown (stores s) (sound_of s) i at c.requires is in
     record {
       axes = axes_shown (stores s) (sound_of s) i at c.requires is;
       each_axis = (

@@ -12,4 +12,4 @@ returns-in-Some c =
 pub returns-in-None : goal.returns-in-None
 returns-in-None c =
     let s = c.args.self.now in
-    begun_not c.args.number s.begun s.glyphs.now (dealt (stores s)) s.within.0 c.in-None.ensures
+    begun_not c.args.number s.begun s.stores.glyphs.now (dealt (stores s)) s.within.0 c.in-None.ensures

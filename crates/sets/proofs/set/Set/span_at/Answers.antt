@@ -8,7 +8,7 @@ pub offset_bounds-self-at : goal.offset_bounds-self-at
 offset_bounds-self-at c =
     let s = c.args.self.now in
     let l = glyphs_long (stores s) (sound_of s) in
-    let h : c.args.at < length s.glyphs.now = omega (arith, c.glyph_count.ensures.is, s.within.0) in
+    let h : c.args.at < length s.stores.glyphs.now = omega (arith, c.glyph_count.ensures.is, s.within.0) in
     search rules
 
 pub bounds-self-at : goal.bounds-self-at
@@ -21,7 +21,7 @@ pub offset_bounds-self-at-2 : goal.offset_bounds-self-at-2
 offset_bounds-self-at-2 c =
     let s = c.args.self.now in
     let l = glyphs_long (stores s) (sound_of s) in
-    let h : c.args.at < length s.glyphs.now = omega (arith, c.glyph_count.ensures.is, s.within.0) in
+    let h : c.args.at < length s.stores.glyphs.now = omega (arith, c.glyph_count.ensures.is, s.within.0) in
     search rules
 
 pub returns : goal.returns

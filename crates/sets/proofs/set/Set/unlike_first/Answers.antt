@@ -14,5 +14,5 @@ pub returns : goal.returns
 returns c =
     let s = c.args.self.now in
     let is = c.last-count.ensures.is in
-    ap (λ (x : GlyphCell). not (eqb (get_or s.variations.now (s.added - x.variations) blank_variation).deltas c.args.n)) is
+    ap (λ (x : GlyphCell). not (eqb (get_or s.stores.variations.now (s.added - x.variations) blank_variation).deltas c.args.n)) is
     ∙ other_is (stores s) (sound_of s) c.requires (λ e. c.if-count-eq0.false (ap (λ (x : GlyphCell). x.variations) is ∙ e)) c.args.n
