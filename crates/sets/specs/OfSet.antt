@@ -10,11 +10,11 @@ use Rattle.sets.specs.Sound.{Sound}
 abbrev pub stores : Set → Stores
 stores s = record {
   axes = s.axes.count;
-  names = s.stores.glyphs.ghost_name ∷ s.stores.variations.ghost_name ∷ s.stores.values.ghost_name ∷ s.stores.deltas.ghost_name ∷ [];
-  glyphs = s.stores.glyphs.now;
-  variations = s.stores.variations.now;
-  values = s.stores.values.now;
-  deltas = s.stores.deltas.now;
+  names = s.glyphs.ghost_name ∷ s.variations.ghost_name ∷ s.values.ghost_name ∷ s.deltas.ghost_name ∷ [];
+  glyphs = s.glyphs.now;
+  variations = s.variations.now;
+  values = s.values.now;
+  deltas = s.deltas.now;
   begun = s.begun;
   added = s.added;
   moved = s.moved;

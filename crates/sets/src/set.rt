@@ -5,7 +5,8 @@ ghost use Rattle.sets.specs.Index.{Apart, Low};
 ghost use Rattle.sets.specs.Sound.{Firsts, Starts, Chained, Few, Chosen, ShortCells};
 
 use super::axis::AxisCount;
-use super::stores::Stores;
+use super::cells::{GlyphCell, VariationCell};
+use variations::delta::GlyphDelta;
 
 pub mod add;
 pub mod begin;
@@ -16,17 +17,21 @@ pub mod views;
 #[derive(Drop)]
 pub struct Set<'a> {
     axes: AxisCount,
-    stores: Stores<'a>,
+    glyphs: &'a mut [GlyphCell],
+    variations: &'a mut [VariationCell],
+    // three values for each axis of a variation: its peak, then its starts, then its ends
+    values: &'a mut [i16],
+    deltas: &'a mut [GlyphDelta],
     // how many glyph cells, variation cells and deltas are in use
     begun: usize,
     added: usize,
     moved: usize,
-    ghost within: { (begun ≤ length stores.glyphs.now) × (added ≤ length stores.variations.now) × (3 * axes.count * added ≤ length stores.values.now) × (moved ≤ length stores.deltas.now) },
-    ghost counted: { (variations_in (take begun stores.glyphs.now) ≡ added) × (deltas_in (take added stores.variations.now) ≡ moved) },
-    ghost placed: { Firsts begun stores.glyphs.now × Starts added stores.variations.now },
-    ghost chained: { Chained begun stores.glyphs.now },
-    ghost numbered: { Apart (number_at stores.glyphs.now) begun × Low (number_at stores.glyphs.now) begun },
-    ghost few: { Few begun stores.glyphs.now added stores.variations.now },
-    ghost chosen: { Chosen (take added stores.variations.now) (take moved stores.deltas.now) },
-    ghost short: { ShortCells (take (3 * axes.count * added) stores.values.now) (take moved stores.deltas.now) },
+    ghost within: { (begun ≤ length glyphs.now) × (added ≤ length variations.now) × (3 * axes.count * added ≤ length values.now) × (moved ≤ length deltas.now) },
+    ghost counted: { (variations_in (take begun glyphs.now) ≡ added) × (deltas_in (take added variations.now) ≡ moved) },
+    ghost placed: { Firsts begun glyphs.now × Starts added variations.now },
+    ghost chained: { Chained begun glyphs.now },
+    ghost numbered: { Apart (number_at glyphs.now) begun × Low (number_at glyphs.now) begun },
+    ghost few: { Few begun glyphs.now added variations.now },
+    ghost chosen: { Chosen (take added variations.now) (take moved deltas.now) },
+    ghost short: { ShortCells (take (3 * axes.count * added) values.now) (take moved deltas.now) },
 }

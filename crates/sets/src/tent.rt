@@ -1,6 +1,6 @@
 // Tents as they are handed in: on each axis a peak, with or without bounds.
 ghost use Rattle.std.specs.Prelude.{◌≡◌};
-ghost use Rattle.sets.specs.Given.{part_of};
+ghost use Rattle.sets.specs.Given.{tent_of};
 
 #[derive(Clone, Copy)]
 pub struct Bounds {
@@ -14,28 +14,17 @@ pub struct Tent {
     pub bounds: Option<Bounds>,
 }
 
-// Which of the three values that are kept of a tent.
-#[derive(Clone, Copy)]
-pub(crate) enum Part {
-    Peak,
-    Start,
-    End,
-}
-
 impl Tent {
-    // One value of the tent. Bounds that are not handed in are the peak and 0.
-    pub(crate) fn part(&self, which: Part) -> i16
-        ensures { result ≡ part_of which self.now }
+    // The bounds handed in, or those that the peak implies.
+    pub fn extent(&self) -> Bounds
+        ensures min { result.min ≡ (tent_of self.now).start }
+        ensures max { result.max ≡ (tent_of self.now).end }
     {
-        match which {
-            Part::Peak => self.peak,
-            Part::Start => match self.bounds {
-                Some(b) => b.min,
-                None => self.peak.min(0),
-            },
-            Part::End => match self.bounds {
-                Some(b) => b.max,
-                None => self.peak.max(0),
+        match self.bounds {
+            Some(b) => b,
+            None => Bounds {
+                min: self.peak.min(0),
+                max: self.peak.max(0),
             },
         }
     }

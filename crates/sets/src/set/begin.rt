@@ -19,9 +19,18 @@ impl<'a> Set<'a> {
         ensures account { account_of result ≡ opened axes.count (record { glyph = length lent.entry.glyphs.now; variation = length lent.entry.variations.now; axis = length lent.entry.values.now; delta = length lent.entry.deltas.now }) }
         ensures stores { stores result ≡ record { axes = axes.count; names = lent.entry.glyphs.ghost_name ∷ lent.entry.variations.ghost_name ∷ lent.entry.values.ghost_name ∷ lent.entry.deltas.ghost_name ∷ []; glyphs = lent.entry.glyphs.now; variations = lent.entry.variations.now; values = lent.entry.values.now; deltas = lent.entry.deltas.now; begun = 0; added = 0; moved = 0 } }
     {
+        let Stores {
+            glyphs,
+            variations,
+            values,
+            deltas,
+        } = lent;
         Set {
             axes,
-            stores: lent,
+            glyphs,
+            variations,
+            values,
+            deltas,
             begun: 0,
             added: 0,
             moved: 0,
@@ -30,32 +39,23 @@ impl<'a> Set<'a> {
 
     // Begins a glyph that nothing speaks against: it becomes the first link of its bucket's chain.
     fn begin(&mut self, number: u16)
-        requires room { self.old.begun < length self.old.stores.glyphs.now }
+        requires room { self.old.begun < length self.old.glyphs.now }
         requires small { number ≤ 65534 }
         requires new { false ≡ begun number (glyphs_of self.old) }
         ensures account { account_of self.new ≡ accepted (account_of self.old) (glyph number) }
         ensures lent { lent_of self.new ≡ lent_of self.old }
     {
         let at = self.begun;
-        let b = number as usize % self.stores.glyphs.len();
-        let link = self.chain(b);
-        let first = self.added;
-        let head = self.stores.glyphs[at].head;
-        self.stores.glyphs[at] = GlyphCell {
+        let bucket = usize::from(number) % self.glyphs.len();
+        let next = self.chain(bucket);
+        self.glyphs[at] = GlyphCell {
             number,
             variations: 0,
-            first,
-            head,
-            next: link,
+            first: self.added,
+            next,
+            ..self.glyphs[at]
         };
-        let cell = self.stores.glyphs[b];
-        self.stores.glyphs[b] = GlyphCell {
-            number: cell.number,
-            variations: cell.variations,
-            first: cell.first,
-            head: at + 1,
-            next: cell.next,
-        };
+        self.glyphs[bucket].head = Some(at);
         self.begun = at + 1;
     }
 
@@ -69,10 +69,10 @@ impl<'a> Set<'a> {
         if number > LAST_NUMBER {
             return Err(Refusal::NumberTooLarge(number));
         }
-        if self.has(number as usize) {
+        if self.has(usize::from(number)) {
             return Err(Refusal::AlreadyBegun(number));
         }
-        if self.begun == self.stores.glyphs.len() {
+        if self.begun == self.glyphs.len() {
             return Err(Refusal::NoGlyphCell(number));
         }
         self.begin(number);
