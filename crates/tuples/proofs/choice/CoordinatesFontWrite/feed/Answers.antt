@@ -1,0 +1,19 @@
+use Rattle.std.proofs.lemmas.Result.{err_from_is_err_and}
+use Rattle.write.proofs.Feeding.{fed_then, fed_stop}
+use Rattle.tuples.proofs.Choosing.{coordinates_are}
+use Rattle.tuples.proofs.Pieces.{fed_as}
+use Rattle.tuples.proofs.choice.CoordinatesFontWrite.feed.Goals as goal
+
+pub returns-in_err-feed : goal.returns-in_err-feed
+returns-in_err-feed g c =
+    let q = err_from_is_err_and c.from_residual.result c.from_residual.ensures.1 in
+    let v = c.args.self.now in
+    let xs = rw c.packed.ensures at c.in_err-feed.ensures in
+    rw (q.1, q.2) (fed_as (coordinates_are v.all v.deltas.now) (fed_stop _ _ xs))
+
+pub returns : goal.returns
+returns g c =
+    let v = c.args.self.now in
+    let xs = rw c.packed.ensures at c.in_ok-feed.ensures in
+    let ys = rw c.packed-2.ensures at c.feed-2.ensures in
+    fed_as (coordinates_are v.all v.deltas.now) (fed_then c.feed-2.result xs.outcome ys)
