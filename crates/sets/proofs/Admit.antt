@@ -7,8 +7,9 @@ use Rattle.format.specs.Account.{Glyph, Cells, Delta, Given, Declined, declined,
 use Rattle.variations.specs.declared.delta.GlyphDelta.{GlyphDelta}
 use Rattle.variations.specs.Deltas.{delta_of, deltas_of}
 use Rattle.sets.specs.declared.cells.GlyphCell.{GlyphCell}
-use Rattle.sets.specs.declared.tent.Tent.{Tent}
-use Rattle.sets.specs.Given.{given, variation_call}
+use Rattle.tents.specs.declared.tent.Tent.{Tent}
+use Rattle.tents.specs.Tents.{given}
+use Rattle.sets.specs.Given.{variation_call}
 use Rattle.sets.specs.Layout.{Stores, account_in, dealt, groups}
 use Rattle.sets.specs.Sound.{Sound}
 use Rattle.sets.specs.Writing.{last_cell, front, last_variations, Admitted}

@@ -8,9 +8,10 @@ use Rattle.variations.specs.declared.delta.GlyphDelta.{GlyphDelta}
 use Rattle.variations.specs.Deltas.{delta_of, deltas_of}
 use Rattle.tuples.specs.declared.choice.StoredPoints.{StoredPoints}
 use Rattle.sets.specs.declared.cells.VariationCell.{VariationCell}
-use Rattle.sets.specs.declared.tent.Tent.{Tent}
+use Rattle.tents.specs.declared.tent.Tent.{Tent}
 use Rattle.sets.specs.Cells.{variations_in, deltas_in}
-use Rattle.sets.specs.Given.{given, variation_call}
+use Rattle.tents.specs.Tents.{given}
+use Rattle.sets.specs.Given.{variation_call}
 use Rattle.sets.specs.Layout.{Stores, account_in, lent_in, dealt, deal, groups, read, tents_of}
 use Rattle.sets.specs.Sound.{Sound}
 use Rattle.sets.specs.Writing.{last_cell, front, Admitted}

@@ -9,8 +9,8 @@ use Rattle.variations.specs.Deltas.{deltas_of}
 use Rattle.tuples.specs.declared.choice.StoredPoints.{StoredPoints}
 use Rattle.tuples.specs.Choice.{StoredAs}
 use Rattle.sets.specs.declared.cells.VariationCell.{VariationCell}
-use Rattle.sets.specs.declared.tent.Tent.{Tent}
-use Rattle.sets.specs.Given.{tent_of}
+use Rattle.tents.specs.declared.tent.Tent.{Tent}
+use Rattle.tents.specs.Tents.{tent_of}
 use Rattle.sets.specs.Layout.{Stores}
 use Rattle.sets.specs.Sound.{Sound, Chosen, ShortCells, short_value, short_delta}
 use Rattle.sets.specs.Writing.{with_values, with_deltas, laid, Admitted}

@@ -3,7 +3,7 @@ use Rattle.std.proofs.Common.{◌≡◌, ℕ, zero, suc, ◌+◌, ◌*◌, ◌<�
 use Rattle.std.proofs.Math.Seq.{paste}
 use Rattle.std.proofs.lemmas.List.Edits.{paste_more, length-paste}
 use Rattle.std.proofs.lemmas.List.{length-map}
-use Rattle.sets.specs.declared.tent.Tent.{Tent}
+use Rattle.tents.specs.declared.tent.Tent.{Tent}
 use Rattle.sets.specs.Writing.{laid}
 use Rattle.sets.proofs.Filled.{peak_of, start_of, end_of}
 

@@ -9,8 +9,8 @@ use Rattle.variations.specs.declared.delta.GlyphDelta.{GlyphDelta}
 use Rattle.variations.specs.Deltas.{delta_of}
 use Rattle.sets.specs.declared.cells.GlyphCell.{GlyphCell}
 use Rattle.sets.specs.declared.cells.VariationCell.{VariationCell}
-use Rattle.sets.specs.declared.tent.Tent.{Tent}
-use Rattle.sets.specs.Given.{tent_of}
+use Rattle.tents.specs.declared.tent.Tent.{Tent}
+use Rattle.tents.specs.Tents.{tent_of}
 use Rattle.sets.specs.Layout.{Stores, tents_of, deal, dealt, groups, account_in}
 use Rattle.sets.specs.Sound.{Sound, short_value, short_delta}
 use Rattle.sets.proofs.Deal.{dealt_in_use}

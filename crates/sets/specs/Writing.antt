@@ -5,8 +5,8 @@ use Rattle.format.specs.Account.{Variation}
 use Rattle.variations.specs.declared.delta.GlyphDelta.{GlyphDelta}
 use Rattle.sets.specs.declared.cells.GlyphCell.{GlyphCell}
 use Rattle.sets.specs.Cells.{variations_in, blank_glyph}
-use Rattle.sets.specs.declared.tent.Tent.{Tent}
-use Rattle.sets.specs.Given.{tent_of}
+use Rattle.tents.specs.declared.tent.Tent.{Tent}
+use Rattle.tents.specs.Tents.{tent_of}
 use Rattle.sets.specs.Layout.{Stores, dealt}
 
 -- the stores with other values

@@ -6,5 +6,4 @@ pub mod cells;
 pub mod refusal;
 pub mod set;
 pub mod stores;
-pub mod tent;
 pub mod view;

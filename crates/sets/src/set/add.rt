@@ -4,7 +4,8 @@ ghost use Rattle.std.proofs.Math.Seq.{paste};
 ghost use Rattle.std.specs.List.{AllByRecursion};
 ghost use Rattle.format.specs.Account.{refusal, next, accepted, other_count, ShortDelta, ShortTent};
 ghost use Rattle.variations.specs.Deltas.{delta_of};
-ghost use Rattle.sets.specs.Given.{tent_of, variation_call};
+ghost use Rattle.tents.specs.Tents.{tent_of};
+ghost use Rattle.sets.specs.Given.{variation_call};
 ghost use Rattle.sets.specs.OfSet.{stores, account_of, lent_of, SameWhereRefused};
 ghost use Rattle.sets.specs.Refusals.{answer_of};
 ghost use Rattle.sets.specs.Writing.{with_values, with_deltas, laid, last_cell, last_variations, Admitted};
@@ -12,7 +13,7 @@ ghost use Rattle.sets.specs.Writing.{with_values, with_deltas, laid, last_cell, 
 use super::Set;
 use crate::cells::{GlyphCell, VariationCell};
 use crate::refusal::Refusal;
-use crate::tent::Tent;
+use tents::tent::Tent;
 use tuples::choice::stored_points;
 use variations::delta::GlyphDelta;
 

@@ -1,9 +1,9 @@
-use Rattle.std.proofs.Common.{◌≡◌, ℕ, ◌+◌, ◌*◌, ◌≤◌, List, length, ℤ, sym, ap, ◌∙◌, subst, arith}
+use Rattle.std.proofs.Common.{◌≡◌, ℕ, ◌*◌, List, length, ℤ, sym, ap, ◌∙◌, subst, arith}
 use Rattle.std.proofs.Math.Seq.{paste}
 use Rattle.format.specs.Table.{variation_count}
 use Rattle.variations.specs.declared.delta.GlyphDelta.{GlyphDelta}
 use Rattle.sets.specs.declared.set.Set.{Set}
-use Rattle.sets.specs.declared.tent.Tent.{Tent}
+use Rattle.tents.specs.declared.tent.Tent.{Tent}
 use Rattle.sets.specs.Layout.{Stores, account_in, lent_in}
 use Rattle.sets.specs.OfSet.{stores, sound_of, glyphs_of}
 use Rattle.sets.specs.Sound.{Sound}

@@ -1,4 +1,4 @@
-use Rattle.std.proofs.Common.{◌≡◌, ℕ, ◌<◌, length, Option, sym, ap, ◌∙◌, subst}
+use Rattle.std.proofs.Common.{ℕ, ◌<◌, length, Option, sym, ap, ◌∙◌, subst}
 use Rattle.sets.specs.Cells.{number_at, next_at}
 use Rattle.sets.specs.Index.{previous}
 use Rattle.sets.proofs.Chains.{Walk, left, walk_starts, walk_more, walk_less}

@@ -1,4 +1,4 @@
-use Rattle.std.proofs.Common.{◌≡◌, ℕ, ◌*◌, List, map, get_or, take, drop, ℤ, refl, ap, ◌∙◌, drop-drop}
+use Rattle.std.proofs.Common.{◌≡◌, ◌*◌, map, get_or, take, drop, refl, ap, ◌∙◌, drop-drop}
 use Rattle.format.specs.Account.{Variation}
 use Rattle.format.specs.Glyphs.{peak}
 use Rattle.sets.specs.OfSet.{stores, sound_of, glyphs_of}

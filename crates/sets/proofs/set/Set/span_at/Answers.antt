@@ -1,7 +1,7 @@
 use Rattle.std.proofs.Common.{◌≡◌, ◌<◌, ◌≤◌, length, List, get_or, MatchOption, Option, sym, ap, ◌∙◌, subst, arith, get_or-take}
 use Rattle.sets.specs.declared.cells.GlyphCell.{GlyphCell}
 use Rattle.sets.specs.declared.view.Span.{Span}
-use Rattle.sets.specs.Cells.{blank_glyph, first_at, count_at}
+use Rattle.sets.specs.Cells.{blank_glyph}
 use Rattle.sets.specs.OfSet.{stores, sound_of, glyphs_of}
 use Rattle.sets.specs.Views.{Lies}
 use Rattle.sets.proofs.Full.{glyphs_long}

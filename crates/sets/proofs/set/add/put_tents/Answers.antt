@@ -1,10 +1,10 @@
-use Rattle.std.proofs.Common.{◌≡◌, ◌+◌, ◌*◌, List, length, map, get_or, set, ℤ, pos, None, sym, ap, ◌∙◌, subst, arith, w16, to_z, of_z, rules}
+use Rattle.std.proofs.Common.{◌≡◌, ◌+◌, length, map, get_or, set, pos, None, sym, ◌∙◌, subst, arith, w16, to_z, of_z, rules}
 use Rattle.std.proofs.lemmas.List.{get_or-map}
 use Rattle.std.proofs.ByRecursion.{All-more}
 use Rattle.format.specs.Account.{ShortTent}
 use Rattle.format.specs.Bytes.{Short}
-use Rattle.sets.specs.declared.tent.Tent.{Tent}
-use Rattle.sets.specs.Given.{tent_of}
+use Rattle.tents.specs.declared.tent.Tent.{Tent}
+use Rattle.tents.specs.Tents.{tent_of}
 use Rattle.sets.proofs.Filled.{peak_of, start_of, end_of}
 use Rattle.sets.proofs.Laid.{laid_more}
 use Rattle.sets.proofs.set.add.put_tents.Goals as goal

@@ -1,7 +1,7 @@
 use Rattle.std.proofs.Common.{◌≡◌, take}
 use Rattle.std.specs.List.{AllByRecursion}
 use Rattle.format.specs.Account.{ShortTent}
-use Rattle.sets.specs.Given.{tent_of}
+use Rattle.tents.specs.Tents.{tent_of}
 use Rattle.sets.specs.Writing.{laid}
 use Rattle.sets.proofs.set.add.put_tents.Given as goal
 
