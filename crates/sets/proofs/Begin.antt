@@ -6,7 +6,7 @@ use Rattle.format.specs.Account.{begun, glyph, accepted}
 use Rattle.sets.specs.declared.cells.GlyphCell.{GlyphCell}
 use Rattle.sets.specs.Cells.{variations_in, blank_glyph, number_at, count_at, first_at, head_at, next_at}
 use Rattle.sets.specs.Index.{previous, Heads, Nexts}
-use Rattle.sets.specs.Layout.{Stores, account_in, lent_in, dealt, groups}
+use Rattle.sets.specs.Layout.{Stores, account_in, dealt, groups}
 use Rattle.sets.specs.Sound.{Sound, Chained, Firsts}
 use Rattle.sets.proofs.Chains.{more_heads, more_nexts, kept_heads, kept_nexts, kept_apart, more_apart, kept_low, more_low}
 use Rattle.sets.proofs.Lists.{groups_snoc, variations_in_snoc, kept_groups, kept_variations, field_same, field_other, field_kept, begun_at}
@@ -73,9 +73,6 @@ module _ (s : Stores) (n b : ℕ) (x : Option ℕ) (room : s.begun < length s.gl
       kept_groups mid b (s.begun + 1) top (dealt s) refl refl
       ∙ ap (λ (r : List GlyphCell). groups r (dealt s)) taken ∙ groups_snoc (take s.begun s.glyphs) new (dealt s) in
       cc
-
-  pub begin_lent : lent_in (begin_stores s n b x) ≡ lent_in s
-  begin_lent = let l = begun_long in cc
 
   -- the new cell alone, behind those in use
   abbrev pub mid_stores : Stores

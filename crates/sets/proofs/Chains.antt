@@ -1,6 +1,6 @@
 -- Laws of the chains of glyphs. Assumes nothing.
 use Rattle.std.proofs.Common.{◌≡◌, ℕ, zero, suc, ◌+◌, ◌%◌, ◌<◌, ◌≤◌, Bool, true, false, cond, eqb, Some, None, Option, MatchOption, IsSomeAnd, ◌≢◌, sym, refl, ap, ◌∙◌, subst, inl, inr, arith}
-use Rattle.std.proofs.lemmas.Bool.{cases_eq, cases_lt, eq-eqb, ne_eqb, eqb-true, false≢true, or_from, or_parts, both_ways}
+use Rattle.std.proofs.lemmas.Bool.{cases_eq, eq-eqb, ne_eqb, eqb-true, false≢true, or_from, or_parts, both_ways}
 use Rattle.sets.specs.Index.{previous, Heads, Nexts, seen, Apart, Low}
 
 -- a place that is found lies below k, in the bucket
@@ -148,13 +148,6 @@ seen_not N number (suc k) h g l e =
     elim (cases_eq g k) [
       | inl q ↦ both_ways _ p.0 (eq-eqb _ _ (subst (λ (x : ℕ). N x ≡ number) q e))
       | inr ne ↦ seen_not N number k p.1 g (omega arith) e
-    ]
-
-pub apart_same : (N : ℕ → ℕ) (m i j : ℕ) → Apart N m → i < m → j < m → N i ≡ N j → i ≡ j
-apart_same N m i j h li lj e =
-    elim (cases_lt i j) [
-      | inl l ↦ absurd (seen_not N (N j) j (h j lj) i l e)
-      | inr g ↦ elim (cases_lt j i) [ inl l ↦ absurd (seen_not N (N i) i (h i li) j l (sym e)) | inr k ↦ omega arith ]
     ]
 
 pub kept_apart : (N M : ℕ → ℕ) (m : ℕ) → ((g : ℕ) → g < m → M g ≡ N g) → Apart N m → Apart M m

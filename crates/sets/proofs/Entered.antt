@@ -12,7 +12,7 @@ use Rattle.tents.specs.declared.tent.Tent.{Tent}
 use Rattle.sets.specs.Cells.{variations_in, deltas_in}
 use Rattle.tents.specs.Tents.{given}
 use Rattle.sets.specs.Given.{variation_call}
-use Rattle.sets.specs.Layout.{Stores, account_in, lent_in, dealt, deal, groups, read, tents_of}
+use Rattle.sets.specs.Layout.{Stores, account_in, dealt, deal, groups, read, tents_of}
 use Rattle.sets.specs.Sound.{Sound}
 use Rattle.sets.specs.Writing.{last_cell, front, Admitted}
 use Rattle.sets.proofs.Deal.{deal_snoc, deal_more, groups_more, add_snoc, counts, length_dealt, glyphs_are}
@@ -130,12 +130,4 @@ module _ (s : Stores) (ts : List Tent) (ds : List GlyphDelta) (h : Sound s) (r :
       let f3 : length (filled s ts ds).values - 3 * s.axes * (s.added + 1) ≡ length s.values - at - 3 * s.axes = omega arith in
       let lm = length-map ds delta_of in
       let f4 : length (filled s ts ds).deltas - (s.moved + length ds) ≡ length s.deltas - s.moved - length (deltas_of ds) = omega arith in
-      cc
-
-  pub entered_lent : lent_in (counted (filled s ts ds) (length ds) r) ≡ lent_in s
-  entered_lent =
-      let l1 = length-set s.glyphs (s.begun - 1) (one_more s) in
-      let l2 = length-set s.variations s.added (cell_for s (length ds) r) in
-      let l3 = values_length s ts ds h room in
-      let l4 = deltas_length s ts ds h room in
       cc

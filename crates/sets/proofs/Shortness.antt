@@ -19,10 +19,6 @@ use Rattle.sets.proofs.Lists.{all_true, true_all}
 abbrev ShortCell : GlyphDelta → Type 0
 ShortCell d = ShortDelta (delta_of d)
 
--- the tests say what they test
-pub values_tested : (xs : List ℤ) → AllByRecursion Short xs → all short_value xs ≡ true
-values_tested xs h = all_true Short short_value (λ z q. lt-ltb _ _ q) xs h
-
 pub tents_tested : (part : Tent → ℤ) → ((t : Tent) → ShortTent (tent_of t) → Short (part t)) → (ts : List Tent) → AllByRecursion (λ t. ShortTent (tent_of t)) ts → all short_value (map part ts) ≡ true
 tents_tested part short [] h = refl
 tents_tested part short (t ∷ ts) h = and_from _ _ (lt-ltb _ _ (short t h.0)) (tents_tested part short ts h.1)

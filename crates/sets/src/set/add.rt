@@ -43,6 +43,7 @@ fn put_deltas(store: &mut [GlyphDelta], at: usize, deltas: &[GlyphDelta])
     ensures short { AllByRecursion (λ d. ShortDelta (delta_of d)) deltas.now }
 {
     for (i, delta) in deltas.iter().enumerate() {
+        // read one by one: so the check knows that both coordinates are of 16 bits
         let GlyphDelta { x, y, required } = *delta;
         store[at + i] = GlyphDelta { x, y, required };
     }

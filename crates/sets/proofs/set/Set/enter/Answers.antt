@@ -4,13 +4,13 @@ use Rattle.format.specs.Table.{variation_count}
 use Rattle.variations.specs.declared.delta.GlyphDelta.{GlyphDelta}
 use Rattle.sets.specs.declared.set.Set.{Set}
 use Rattle.tents.specs.declared.tent.Tent.{Tent}
-use Rattle.sets.specs.Layout.{Stores, account_in, lent_in}
+use Rattle.sets.specs.Layout.{Stores, account_in}
 use Rattle.sets.specs.OfSet.{stores, sound_of, glyphs_of}
 use Rattle.sets.specs.Sound.{Sound}
 use Rattle.sets.specs.Writing.{with_values, with_deltas, laid}
 use Rattle.sets.proofs.Behind.{cell_sound}
 use Rattle.sets.proofs.Enter.{counted, counted_sound}
-use Rattle.sets.proofs.Entered.{entered, entered_lent}
+use Rattle.sets.proofs.Entered.{entered}
 use Rattle.sets.proofs.Filled.{peak_of, start_of, end_of, filled, valued_sound, filled_sound, filled_room, filled_chosen, filled_short}
 use Rattle.sets.proofs.Full.{count_is}
 use Rattle.sets.proofs.Shortness.{tents_tested, deltas_tested}
@@ -42,15 +42,6 @@ invariant_of-self c =
     let h = subst (λ (xs : List ℤ). Sound (with_values s xs)) (sym e) (valued_sound s ts ds (sound_of c.args.self.now) c.requires) in
     record { within = h.within; counted = h.counted; placed = h.placed; chained = h.chained; numbered = h.numbered; few = h.few; chosen = h.chosen; short = h.short }
 
-pub invariant_of-self-2 : goal.invariant_of-self-2
-invariant_of-self-2 c =
-    let s : Stores = stores c.args.self.now in
-    let ts = c.args.tents.now in
-    let ds = c.args.deltas.now in
-    let e = written c.args.self.now ts ds _ c.axis_values-at.ensures.long c.put_tents.new.values c.put_tents.ensures.is c.put_deltas.new.store c.put_deltas.ensures.is in
-    let h = subst (λ (t : Stores). Sound t) (sym e) (filled_sound s ts ds (sound_of c.args.self.now) c.requires) in
-    record { within = h.within; counted = h.counted; placed = h.placed; chained = h.chained; numbered = h.numbered; few = h.few; chosen = h.chosen; short = h.short }
-
 pub invariant_of-self-3 : goal.invariant_of-self-3
 invariant_of-self-3 c =
     let s : Stores = stores c.args.self.now in
@@ -75,15 +66,11 @@ invariant_of-self-4 c =
     (filled_short s ts ds h c.requires (tents_tested peak_of (λ t q. q.0) ts short) (tents_tested start_of (λ t q. q.1) ts short) (tents_tested end_of (λ t q. q.2) ts short) (deltas_tested _ c.put_deltas.ensures.short))) in
     record { within = k.within; counted = k.counted; placed = k.placed; chained = k.chained; numbered = k.numbered; few = k.few; chosen = k.chosen; short = k.short }
 
-pub returns : goal.returns
-returns c =
+pub returns-clause-account : goal.returns-clause-account
+returns-clause-account c =
     let s : Stores = stores c.args.self.now in
     let ts = c.args.tents.now in
     let ds = c.args.deltas.now in
     let r = c.stored_points-stored.result in
-    let h : Sound s = sound_of c.args.self.now in
     let e = written c.args.self.now ts ds _ c.axis_values-at.ensures.long c.put_tents.new.values c.put_tents.ensures.is c.put_deltas.new.store c.put_deltas.ensures.is in
-    record {
-      account = ap (λ (t : Stores). account_in (counted t (length ds) r)) e ∙ entered s ts ds h r c.requires;
-      lent = ap (λ (t : Stores). lent_in (counted t (length ds) r)) e ∙ entered_lent s ts ds h r c.requires;
-    }
+    ap (λ (t : Stores). account_in (counted t (length ds) r)) e ∙ entered s ts ds (sound_of c.args.self.now) r c.requires
