@@ -14,8 +14,7 @@ impl<'a> Set<'a> {
         ensures are { result.now ≡ take self.now.begun self.now.glyphs.now }
         ensures len { length result.now ≡ self.now.begun }
     {
-        let glyphs = &*self.glyphs;
-        &glyphs[..self.begun]
+        &self.glyphs[..self.begun]
     }
 
     // The place of the last glyph in a bucket: its head, unless no glyph has written that.

@@ -51,8 +51,7 @@ impl<'a> Set<'a> {
         ensures { result.now ≡ take (3 * self.now.axes.count) (drop (3 * self.now.axes.count * i) self.now.values.now) }
     {
         let each = self.values_each();
-        let values = &*self.values;
-        &values[each * i..each * i + each]
+        &self.values[each * i..each * i + each]
     }
 
     // The n deltas from the place `start` on.
@@ -104,8 +103,8 @@ impl<'a> Set<'a> {
         ensures { MatchOption result (false ≡ begun number (glyphs_of self.now)) (λ p. Spans (glyphs_of self.now) number p) }
     {
         let place = self.find(number)?;
-        let glyphs = &*self.glyphs;
-        Some(glyphs[place].span())
+        let cell = self.glyphs[place];
+        Some(cell.span())
     }
 
     // The variations of the glyph at a place, in the order in which the glyphs were begun.
@@ -121,7 +120,6 @@ impl<'a> Set<'a> {
         ensures long { length result.now ≡ 3 * (account_of self.now).axes * variation_count (glyphs_of self.now) }
         ensures rows { rows (account_of self.now).axes result.now (variation_count (glyphs_of self.now)) ≡ peaks_seen (glyphs_of self.now) }
     {
-        let values = &*self.values;
-        &values[..self.values_each() * self.variation_count()]
+        &self.values[..self.values_each() * self.variation_count()]
     }
 }

@@ -13,8 +13,8 @@ overflow_mul-result c =
     let k : c.values_each.result * c.variation_count.result ≤ length s.values.now = omega (arith, s.within.2) in
     search rules
 
-pub slice_bounds-result-end : goal.slice_bounds-result-end
-slice_bounds-result-end c =
+pub slice_bounds-result-end-2 : goal.slice_bounds-result-end-2
+slice_bounds-result-end-2 c =
     let s = c.args.self.now in
     let e : c.values_each.result * c.variation_count.result ≡ 3 * s.axes.count * s.added = λ i. c.values_each.ensures.is i * (c.variation_count.ensures.is ∙ sym (count_is (stores s) (sound_of s))) i in
     sym (length-take-le _ s.values.now (omega (arith, s.within.2)))
