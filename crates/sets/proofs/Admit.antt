@@ -1,17 +1,18 @@
 -- What the tests of a variation answer.
-use Rattle.std.proofs.Common.{◌≡◌, ℕ, ◌*◌, ◌<◌, ◌≤◌, Bool, true, false, not, ◌||◌, eqb, ltb, leb, List, [], ◌∷◌, ◌++◌, map, length, sym, refl, ap, ◌∙◌, subst, arith}
+use Rattle.std.proofs.Common.{◌≡◌, ℕ, ◌*◌, ◌<◌, ◌≤◌, Bool, true, false, not, ◌||◌, eqb, ltb, leb, List, [], ◌∷◌, ◌++◌, map, length, sym, refl, ap, ◌∙◌}
 use mathlib.Core.Option.{Option, none, some}
 use Rattle.std.proofs.lemmas.List.{length-map}
-use Rattle.std.proofs.lemmas.Bool.{eq-eqb, ne_eqb, lt-ltb, le-ltb, le-leb, lt-leb, ltb-false, not_from_true, not_from_false, or_parts}
+use Rattle.std.proofs.lemmas.Bool.{eq-eqb, ne_eqb, lt-ltb, le-ltb, le-leb, lt-leb, not_from_true, not_from_false}
 use Rattle.format.specs.Account.{Glyph, Cells, Delta, Given, Declined, declined, iff, first_of, refusal, variation, other_count}
 use Rattle.variations.specs.declared.delta.GlyphDelta.{GlyphDelta}
 use Rattle.variations.specs.Deltas.{delta_of, deltas_of}
 use Rattle.sets.specs.declared.cells.GlyphCell.{GlyphCell}
-use Rattle.sets.specs.declared.tent.Tent.{Tent}
-use Rattle.sets.specs.Given.{given, variation_call}
+use Rattle.tents.specs.declared.tent.Tent.{Tent}
+use Rattle.tents.specs.Tents.{given}
+use Rattle.sets.specs.Given.{variation_call}
 use Rattle.sets.specs.Layout.{Stores, account_in, dealt, groups}
 use Rattle.sets.specs.Sound.{Sound}
-use Rattle.sets.specs.Writing.{last_cell, front, last_variations, Admitted}
+use Rattle.sets.specs.Writing.{last_cell, front, last_variations}
 use Rattle.sets.proofs.Deal.{glyphs_are, last_length}
 
 -- the five conditions, with their tests
@@ -80,22 +81,3 @@ module _ (s : Stores) (h : Sound s) (any : 0 < s.begun) (ts : List Tent) (ds : L
 
     pub passes : length ts ≡ s.axes → length ds ≤ 32767 → false ≡ differs → l.variations < 4095 → false ≡ lacks → none ≡ wanted
     passes e5 e6 e7 e8 e = sym (refusal_of ∙ rw (tents_pass e5, deltas_pass e6, ← e7, lt-leb _ _ e8, ← e) refl)
-
-    pub admitted : length ts ≡ s.axes → length ds ≤ 32767 → l.variations < 4095 → false ≡ lacks → Admitted s (length ts) (length ds)
-    admitted e5 e6 e8 e =
-        let p = or_parts (ltb (account_in s).free.variation 1 || ltb (account_in s).free.axis (3 * s.axes)) (ltb (account_in s).free.delta (length ds)) (sym e) in
-        let q = or_parts (ltb (account_in s).free.variation 1) (ltb (account_in s).free.axis (3 * s.axes)) p.0 in
-        let v = ltb-false _ _ q.0 in
-        let x = ltb-false _ _ q.1 in
-        let d = ltb-false _ _ p.1 in
-        let w = h.within in
-        let k : (last_cell s).variations < 4095 = subst (λ (c : GlyphCell). c.variations < 4095) is e8 in
-        record {
-          begun = any;
-          tents = e5;
-          few_deltas = e6;
-          few_variations = k;
-          variations = omega (arith, v, w.1);
-          values = omega (arith, x, w.2);
-          deltas = omega (arith, d, w.3);
-        }

@@ -1,30 +1,30 @@
 -- What a cell for a new glyph does to the stores.
-use Rattle.std.proofs.Common.{◌≡◌, ℕ, ◌+◌, ◌-◌, ◌%◌, ◌<◌, ◌≤◌, false, ◌≢◌, List, [], ◌∷◌, ◌++◌, length, get_or, take, set, sym, refl, ap, ◌∙◌, subst, inl, inr, mod-lt, add-one, arith, length-set, take-suc-set}
+use Rattle.std.proofs.Common.{◌≡◌, ℕ, Some, Option, ◌+◌, ◌-◌, ◌%◌, ◌<◌, ◌≤◌, false, ◌≢◌, List, [], ◌∷◌, ◌++◌, length, get_or, take, set, sym, refl, ap, ◌∙◌, subst, inl, inr, mod-lt, add-one, arith, length-set, take-suc-set}
 use lib.Seq.{take-set-le}
 use Rattle.std.proofs.lemmas.Bool.{cases_eq, false≢true}
 use Rattle.format.specs.Account.{begun, glyph, accepted}
 use Rattle.sets.specs.declared.cells.GlyphCell.{GlyphCell}
 use Rattle.sets.specs.Cells.{variations_in, blank_glyph, number_at, count_at, first_at, head_at, next_at}
 use Rattle.sets.specs.Index.{previous, Heads, Nexts}
-use Rattle.sets.specs.Layout.{Stores, account_in, lent_in, dealt, groups}
+use Rattle.sets.specs.Layout.{Stores, account_in, dealt, groups}
 use Rattle.sets.specs.Sound.{Sound, Chained, Firsts}
 use Rattle.sets.proofs.Chains.{more_heads, more_nexts, kept_heads, kept_nexts, kept_apart, more_apart, kept_low, more_low}
 use Rattle.sets.proofs.Lists.{groups_snoc, variations_in_snoc, kept_groups, kept_variations, field_same, field_other, field_kept, begun_at}
 
 -- the cell of the new glyph, and the cell whose place is its bucket
-abbrev pub new_cell : Stores → ℕ → ℕ → GlyphCell
+abbrev pub new_cell : Stores → ℕ → Option ℕ → GlyphCell
 new_cell s n x = record { number = n; variations = 0; first = s.added; head = head_at s.glyphs s.begun; next = x }
 
-abbrev pub with_new : Stores → ℕ → ℕ → List GlyphCell
+abbrev pub with_new : Stores → ℕ → Option ℕ → List GlyphCell
 with_new s n x = set s.glyphs s.begun (new_cell s n x)
 
-abbrev pub headed : List GlyphCell → ℕ → ℕ → GlyphCell
+abbrev pub headed : List GlyphCell → ℕ → Option ℕ → GlyphCell
 headed cs b x = record { number = number_at cs b; variations = count_at cs b; first = first_at cs b; head = x; next = next_at cs b }
 
-abbrev pub begun_cells : Stores → ℕ → ℕ → ℕ → List GlyphCell
-begun_cells s n b x = set (with_new s n x) b (headed (with_new s n x) b (s.begun + 1))
+abbrev pub begun_cells : Stores → ℕ → ℕ → Option ℕ → List GlyphCell
+begun_cells s n b x = set (with_new s n x) b (headed (with_new s n x) b (Some s.begun))
 
-abbrev pub begin_stores : Stores → ℕ → ℕ → ℕ → Stores
+abbrev pub begin_stores : Stores → ℕ → ℕ → Option ℕ → Stores
 begin_stores s n b x = record {
   axes = s.axes;
   names = s.names;
@@ -37,7 +37,7 @@ begin_stores s n b x = record {
   moved = s.moved;
 }
 
-module _ (s : Stores) (n b x : ℕ) (room : s.begun < length s.glyphs) where
+module _ (s : Stores) (n b : ℕ) (x : Option ℕ) (room : s.begun < length s.glyphs) where
   abbrev mid : List GlyphCell
   mid = with_new s n x
 
@@ -48,7 +48,7 @@ module _ (s : Stores) (n b x : ℕ) (room : s.begun < length s.glyphs) where
   cells = begun_cells s n b x
 
   abbrev top : GlyphCell
-  top = headed mid b (s.begun + 1)
+  top = headed mid b (Some s.begun)
 
   mid_long : length mid ≡ length s.glyphs
   mid_long = length-set s.glyphs s.begun new
@@ -74,15 +74,12 @@ module _ (s : Stores) (n b x : ℕ) (room : s.begun < length s.glyphs) where
       ∙ ap (λ (r : List GlyphCell). groups r (dealt s)) taken ∙ groups_snoc (take s.begun s.glyphs) new (dealt s) in
       cc
 
-  pub begin_lent : lent_in (begin_stores s n b x) ≡ lent_in s
-  begin_lent = let l = begun_long in cc
-
   -- the new cell alone, behind those in use
   abbrev pub mid_stores : Stores
   mid_stores = record { axes = s.axes; names = s.names; glyphs = mid; variations = s.variations; values = s.values; deltas = s.deltas; begun = s.begun; added = s.added; moved = s.moved }
 
-  mid_other : (field : GlyphCell → ℕ) (k : ℕ) → k < s.begun → field (get_or mid k blank_glyph) ≡ field (get_or s.glyphs k blank_glyph)
-  mid_other field k q = let ne : k ≢ s.begun = omega arith in field_other field s.glyphs s.begun new k ne
+  mid_other : {X : Type 0} (field : GlyphCell → X) (k : ℕ) → k < s.begun → field (get_or mid k blank_glyph) ≡ field (get_or s.glyphs k blank_glyph)
+  mid_other {X} field k q = let ne : k ≢ s.begun = omega arith in field_other field s.glyphs s.begun new k ne
 
   mid_heads : (k : ℕ) → head_at mid k ≡ head_at s.glyphs k
   mid_heads k = field_kept (λ c. c.head) s.glyphs s.begun new room refl k
@@ -90,9 +87,9 @@ module _ (s : Stores) (n b x : ℕ) (room : s.begun < length s.glyphs) where
   mid_chained : Chained s.begun s.glyphs → Chained s.begun mid
   mid_chained h =
       subst (λ (k : ℕ). Heads (number_at mid) (head_at mid) s.begun k × Nexts (number_at mid) (next_at mid) s.begun k) (sym mid_long) (
-        kept_heads (number_at s.glyphs) (head_at s.glyphs) (next_at s.glyphs) (number_at mid) (head_at mid) (next_at mid) s.begun (length s.glyphs)
+        kept_heads (number_at s.glyphs) (number_at mid) (head_at s.glyphs) (next_at s.glyphs) (head_at mid) (next_at mid) s.begun (length s.glyphs)
             (mid_other (λ c. c.number)) mid_heads (mid_other (λ c. c.next)) h.0,
-        kept_nexts (number_at s.glyphs) (head_at s.glyphs) (next_at s.glyphs) (number_at mid) (head_at mid) (next_at mid) s.begun (length s.glyphs)
+        kept_nexts (number_at s.glyphs) (number_at mid) (head_at s.glyphs) (next_at s.glyphs) (head_at mid) (next_at mid) s.begun (length s.glyphs)
             (mid_other (λ c. c.number)) mid_heads (mid_other (λ c. c.next)) h.1,
       )
 
@@ -141,7 +138,7 @@ module _ (s : Stores) (n b x : ℕ) (room : s.begun < length s.glyphs) where
     number_old : (g : ℕ) → g < s.begun → number_at cells g ≡ number_at s.glyphs g
     number_old g l = field_kept (λ c. c.number) mid b top in_mid refl g ∙ mid_other (λ c. c.number) g l
 
-    head_here : head_at cells (number_at cells s.begun % length s.glyphs) ≡ s.begun + 1
+    head_here : head_at cells (number_at cells s.begun % length s.glyphs) ≡ Some s.begun
     head_here = ap (head_at cells) (sym bucket_is) ∙ field_same (λ c. c.head) mid b top in_mid
 
     heads_old : (k : ℕ) → k ≢ number_at cells s.begun % length s.glyphs → head_at cells k ≡ head_at s.glyphs k
@@ -158,9 +155,9 @@ module _ (s : Stores) (n b x : ℕ) (room : s.begun < length s.glyphs) where
     begin_chained : Chained (s.begun + 1) cells
     begin_chained =
         subst (λ (k : ℕ). Heads (number_at cells) (head_at cells) (s.begun + 1) k × Nexts (number_at cells) (next_at cells) (s.begun + 1) k) (sym begun_long) (
-          more_heads (number_at s.glyphs) (head_at s.glyphs) (next_at s.glyphs) (number_at cells) (head_at cells) (next_at cells) s.begun (length s.glyphs)
+          more_heads (number_at s.glyphs) (number_at cells) (head_at s.glyphs) (next_at s.glyphs) (head_at cells) (next_at cells) s.begun (length s.glyphs)
               number_old head_here heads_old next_here nexts_old h.chained.0,
-          more_nexts (number_at s.glyphs) (head_at s.glyphs) (next_at s.glyphs) (number_at cells) (head_at cells) (next_at cells) s.begun (length s.glyphs)
+          more_nexts (number_at s.glyphs) (number_at cells) (head_at s.glyphs) (next_at s.glyphs) (head_at cells) (next_at cells) s.begun (length s.glyphs)
               number_old head_here heads_old next_here nexts_old h.chained.1,
         )
 

@@ -1,35 +1,35 @@
 -- Laws of the chains of glyphs. Assumes nothing.
-use Rattle.std.proofs.Common.{◌≡◌, ℕ, zero, suc, ◌+◌, ◌-◌, ◌%◌, ◌<◌, ◌≤◌, Bool, true, false, cond, eqb, ◌≢◌, sym, refl, ap, ◌∙◌, subst, inl, inr, arith}
-use Rattle.std.proofs.lemmas.Bool.{cases_eq, cases_lt, eq-eqb, ne_eqb, eqb-true, false≢true, or_from, or_parts, both_ways}
+use Rattle.std.proofs.Common.{◌≡◌, ℕ, zero, suc, ◌+◌, ◌%◌, ◌<◌, ◌≤◌, Bool, true, false, cond, eqb, Some, None, Option, MatchOption, IsSomeAnd, ◌≢◌, sym, refl, ap, ◌∙◌, subst, inl, inr, arith}
+use Rattle.std.proofs.lemmas.Bool.{cases_eq, eq-eqb, ne_eqb, eqb-true, false≢true, or_from, or_parts, both_ways}
 use Rattle.sets.specs.Index.{previous, Heads, Nexts, seen, Apart, Low}
 
-le_step : (t : Bool) (k x : ℕ) → x ≤ k → cond t (suc k) x ≤ suc k
-le_step true k x h = omega arith
-le_step false k x h = omega arith
+-- a place that is found lies below k, in the bucket
+abbrev pub Inside : (ℕ → ℕ) → ℕ → ℕ → ℕ → Option ℕ → Type 0
+Inside N n b k x = MatchOption x (Unit {0}) (λ p. (p < k) × (N p % n ≡ b))
 
-all_step : (t : Bool) (k x g : ℕ) → (g < k → g < x) → g < suc k → (g ≡ k → t ≡ true) → g < cond t (suc k) x
-all_step true k x g h l e = l
-all_step false k x g h l e = elim (cases_eq g k) [ inl q ↦ absurd (false≢true (e q)) | inr ne ↦ h (omega arith) ]
+inside_more : (N : ℕ → ℕ) (n b k : ℕ) (x : Option ℕ) → Inside N n b k x → Inside N n b (suc k) x
+inside_more N n b k None h = tt
+inside_more N n b k (Some p) h = (omega (arith, h.0), h.1)
 
-some_step : (P : ℕ → Type 0) (t : Bool) (k x : ℕ) → (t ≡ true → P k) → (0 < x → P (x - 1)) → 0 < cond t (suc k) x → P (cond t (suc k) x - 1)
-some_step P true k x e h l = let z : k ≡ suc k - 1 = omega arith in subst P z (e refl)
-some_step P false k x e h l = h l
+inside_step : (N : ℕ → ℕ) (n b k : ℕ) (t : Bool) (x : Option ℕ) → (t ≡ true → N k % n ≡ b) → Inside N n b k x → Inside N n b (suc k) (cond t (Some k) x)
+inside_step N n b k true x e h = (omega arith, e refl)
+inside_step N n b k false x e h = inside_more N n b k x h
+
+last_step : (t : Bool) (k g : ℕ) (x : Option ℕ) → (g < k → IsSomeAnd x (λ p. g ≤ p)) → g < suc k → (g ≡ k → t ≡ true) → IsSomeAnd (cond t (Some k) x) (λ p. g ≤ p)
+last_step true k g x h l e = omega arith
+last_step false k g x h l e = elim (cases_eq g k) [ inl q ↦ absurd (false≢true (e q)) | inr ne ↦ h (omega arith) ]
 
 module _ (N : ℕ → ℕ) (n b : ℕ) where
-  pub previous_le : (k : ℕ) → previous N n b k ≤ k
-  previous_le zero = omega arith
-  previous_le (suc k) = le_step (eqb (N k % n) b) k (previous N n b k) (previous_le k)
+  pub previous_inside : (k : ℕ) → Inside N n b k (previous N n b k)
+  previous_inside zero = tt
+  previous_inside (suc k) = inside_step N n b k (eqb (N k % n) b) (previous N n b k) (λ e. eqb-true _ _ e) (previous_inside k)
 
-  pub previous_all : (k g : ℕ) → g < k → N g % n ≡ b → g < previous N n b k
-  previous_all zero g l e = absurd (omega arith)
-  previous_all (suc k) g l e =
-      all_step (eqb (N k % n) b) k (previous N n b k) g (λ h. previous_all k g h e) l
+  -- no glyph of the bucket lies behind it
+  pub previous_last : (k g : ℕ) → g < k → N g % n ≡ b → IsSomeAnd (previous N n b k) (λ p. g ≤ p)
+  previous_last zero g l e = absurd (omega arith)
+  previous_last (suc k) g l e =
+      last_step (eqb (N k % n) b) k g (previous N n b k) (λ h. previous_last k g h e) l
       (λ q. eq-eqb _ _ (subst (λ (x : ℕ). N x % n ≡ b) q e))
-
-  pub previous_some : (k : ℕ) → 0 < previous N n b k → N (previous N n b k - 1) % n ≡ b
-  previous_some zero l = absurd (omega arith)
-  previous_some (suc k) l =
-      some_step (λ x. N x % n ≡ b) (eqb (N k % n) b) k (previous N n b k) (λ e. eqb-true _ _ e) (λ h. previous_some k h) l
 
 pub previous_same : (N M : ℕ → ℕ) (n b k : ℕ) → ((g : ℕ) → g < k → N g ≡ M g) → previous N n b k ≡ previous M n b k
 previous_same N M n b zero h = refl
@@ -38,68 +38,62 @@ previous_same N M n b (suc k) h =
     rw (h k (omega arith), i) refl
 
 -- a head that is read where the bucket has a glyph
-pub head_is : (N H : ℕ → ℕ) (m n b : ℕ) → Heads N H m n → 0 < previous N n b m → H b ≡ previous N n b m
-head_is N H m n b h l =
-    let e = previous_some N n b m l in
-    let le = previous_le N n b m in
-    let lt : previous N n b m - 1 < m = omega arith in
-    subst (λ (x : ℕ). H x ≡ previous N n x m) e (h (previous N n b m - 1) lt)
+pub some_head : (N : ℕ → ℕ) (H : ℕ → Option ℕ) (m n b p : ℕ) → Heads N H m n → p < m → N p % n ≡ b → H b ≡ previous N n b m
+some_head N H m n b p h l e = subst (λ (x : ℕ). H x ≡ previous N n x m) e (h p l)
 
 -- what is read of a head is the first link: where the head is not one of the bucket there is none
-pub no_head : (N H : ℕ → ℕ) (m n b : ℕ) → Heads N H m n → (0 < H b → H b ≤ m → N (H b - 1) % n ≡ b → ⊥) → 0 ≡ previous N n b m
+pub no_head : (N : ℕ → ℕ) (H : ℕ → Option ℕ) (m n b : ℕ) → Heads N H m n → ((p : ℕ) → H b ≡ Some p → p < m → N p % n ≡ b → ⊥) → None ≡ previous N n b m
 no_head N H m n b h out =
-    elim (cases_lt 0 (previous N n b m)) [
-      | inl l ↦
-          let e = head_is N H m n b h l in
-          let le = previous_le N n b m in
-          absurd (out (omega arith) (omega arith) (subst (λ (x : ℕ). N (x - 1) % n ≡ b) (sym e) (previous_some N n b m l)))
-      | inr z ↦ omega arith
-    ]
+    none_there (previous N n b m) (previous_inside N n b m) (λ p l e q. out p (some_head N H m n b p h l e ∙ q) l e)
+  where
+    none_there : (x : Option ℕ) → Inside N n b m x → ((p : ℕ) → p < m → N p % n ≡ b → x ≡ Some p → ⊥) → None ≡ x
+    none_there None i out = refl
+    none_there (Some p) i out = absurd (out p i.0 i.1 refl)
 
-pub some_head : (N H : ℕ → ℕ) (m n b : ℕ) → Heads N H m n → 0 < H b → H b ≤ m → N (H b - 1) % n ≡ b → H b ≡ previous N n b m
-some_head N H m n b h l le e =
-    let lt : H b - 1 < m = omega arith in
-    subst (λ (x : ℕ). H x ≡ previous N n x m) e (h (H b - 1) lt)
+-- the search for a number stands at a link: it is one of the number's bucket, and no glyph with the number lies behind it
+pub record Walk (N : ℕ → ℕ) (m n number : ℕ) (x : Option ℕ) : Type 0 where
+  pub inside : Inside N n (number % n) m x
+  pub below : (g : ℕ) → g < m → N g ≡ number → IsSomeAnd x (λ p. g ≤ p)
 
--- the search for a number stands at link x: every glyph with the number lies below x
-pub record Walk (N : ℕ → ℕ) (m n number x : ℕ) : Type 0 where
-  pub low : x ≤ m
-  pub below : (g : ℕ) → g < m → N g ≡ number → g < x
-  pub here : 0 < x → N (x - 1) % n ≡ number % n
+-- how many places the search may still look at
+abbrev pub left : Option ℕ → ℕ
+left None = 0
+left (Some p) = suc p
 
 pub walk_starts : (N : ℕ → ℕ) (m n number : ℕ) → Walk N m n number (previous N n (number % n) m)
 walk_starts N m n number = record {
-  low = previous_le N n (number % n) m;
-  below = λ g l e. previous_all N n (number % n) m g l (ap (λ (x : ℕ). x % n) e);
-  here = previous_some N n (number % n) m;
+  inside = previous_inside N n (number % n) m;
+  below = λ g l e. previous_last N n (number % n) m g l (ap (λ (x : ℕ). x % n) e);
 }
 
-pub walk_more : (N X : ℕ → ℕ) (m n number x : ℕ) → Nexts N X m n → Walk N m n number x → 0 < x → (N (x - 1) ≡ number → ⊥) → Walk N m n number (X (x - 1))
-walk_more N X m n number x h w l other =
-    let low = w.low in
-    let e : X (x - 1) ≡ previous N n (number % n) (x - 1) =
-    h (x - 1) (omega arith) ∙ ap (λ (b : ℕ). previous N n b (x - 1)) (w.here l) in
-    let le = previous_le N n (number % n) (x - 1) in
-    subst (λ (y : ℕ). Walk N m n number y) (sym e) (record {
-      low = omega arith;
-      below = λ g lg q. elim (cases_eq g (x - 1)) [
+inside_less : (N : ℕ → ℕ) (n b k m : ℕ) (x : Option ℕ) → k ≤ m → Inside N n b k x → Inside N n b m x
+inside_less N n b k m None l h = tt
+inside_less N n b k m (Some p) l h = (omega (arith, h.0), h.1)
+
+pub walk_more : (N : ℕ → ℕ) (X : ℕ → Option ℕ) (m n number p : ℕ) → Nexts N X m n → Walk N m n number (Some p) → (N p ≡ number → ⊥) → Walk N m n number (X p)
+walk_more N X m n number p h w other =
+    let l = w.inside.0 in
+    let e : X p ≡ previous N n (number % n) p = h p l ∙ ap (λ (b : ℕ). previous N n b p) w.inside.1 in
+    subst (λ (y : Option ℕ). Walk N m n number y) (sym e) (record {
+      inside = inside_less N n (number % n) p m (previous N n (number % n) p) (omega arith) (previous_inside N n (number % n) p);
+      below = λ g lg q. elim (cases_eq g p) [
         | inl z ↦ absurd (other (subst (λ (y : ℕ). N y ≡ number) z q))
-        | inr ne ↦ let k = w.below g lg q in previous_all N n (number % n) (x - 1) g (omega arith) (ap (λ (y : ℕ). y % n) q)
+        | inr ne ↦ let k = w.below g lg q in previous_last N n (number % n) p g (omega arith) (ap (λ (y : ℕ). y % n) q)
       ];
-      here = previous_some N n (number % n) (x - 1);
     })
 
-pub walk_less : (N X : ℕ → ℕ) (m n number x : ℕ) → Nexts N X m n → Walk N m n number x → 0 < x → X (x - 1) < x
-walk_less N X m n number x h w l =
-    let low = w.low in
-    let e = h (x - 1) (omega arith) in
-    let le = previous_le N n (N (x - 1) % n) (x - 1) in
-    omega arith
+pub walk_less : (N : ℕ → ℕ) (X : ℕ → Option ℕ) (m n number p : ℕ) → Nexts N X m n → Walk N m n number (Some p) → left (X p) < suc p
+walk_less N X m n number p h w =
+    subst (λ (y : Option ℕ). left y < suc p) (sym (h p w.inside.0)) (before (previous N n (N p % n) p) (previous_inside N n (N p % n) p))
+  where
+    before : (x : Option ℕ) → Inside N n (N p % n) p x → left x < suc p
+    before None i = omega arith
+    before (Some q) i = omega (arith, i.0)
 
 -- one glyph more, at place m, in the bucket of its number
-module _ (N H X M G Y : ℕ → ℕ) (m n : ℕ)
+module _ (N M : ℕ → ℕ) (H X G Y : ℕ → Option ℕ) (m n : ℕ)
     (old : (g : ℕ) → g < m → M g ≡ N g)
-    (head : G (M m % n) ≡ m + 1) (heads : (b : ℕ) → b ≢ M m % n → G b ≡ H b)
+    (head : G (M m % n) ≡ Some m) (heads : (b : ℕ) → b ≢ M m % n → G b ≡ H b)
     (next : Y m ≡ previous N n (M m % n) m) (nexts : (j : ℕ) → j < m → Y j ≡ X j) where
   pub more_nexts : Nexts N X m n → Nexts M Y (m + 1) n
   more_nexts h j l = elim (cases_eq j m) [
@@ -109,7 +103,7 @@ module _ (N H X M G Y : ℕ → ℕ) (m n : ℕ)
         nexts j lt ∙ h j lt ∙ ap (λ (x : ℕ). previous N n (x % n) j) (sym (old j lt)) ∙ sym (previous_same M N n (M j % n) j (λ g k. old g (omega arith)))
   ]
 
-  top : (b : ℕ) → M m % n ≡ b → previous M n b (m + 1) ≡ m + 1
+  top : (b : ℕ) → M m % n ≡ b → previous M n b (m + 1) ≡ Some m
   top b e =
       let a : m + 1 ≡ suc m = omega arith in
       rw a (rw (eq-eqb _ _ e) refl)
@@ -131,7 +125,7 @@ module _ (N H X M G Y : ℕ → ℕ) (m n : ℕ)
   ]
 
 -- a write that leaves the chains alone
-module _ (N H X M G Y : ℕ → ℕ) (m n : ℕ) (numbers : (g : ℕ) → g < m → M g ≡ N g) (heads : (b : ℕ) → G b ≡ H b) (nexts : (j : ℕ) → j < m → Y j ≡ X j) where
+module _ (N M : ℕ → ℕ) (H X G Y : ℕ → Option ℕ) (m n : ℕ) (numbers : (g : ℕ) → g < m → M g ≡ N g) (heads : (b : ℕ) → G b ≡ H b) (nexts : (j : ℕ) → j < m → Y j ≡ X j) where
   pub kept_heads : Heads N H m n → Heads M G m n
   kept_heads h g l =
       heads (M g % n)
@@ -154,13 +148,6 @@ seen_not N number (suc k) h g l e =
     elim (cases_eq g k) [
       | inl q ↦ both_ways _ p.0 (eq-eqb _ _ (subst (λ (x : ℕ). N x ≡ number) q e))
       | inr ne ↦ seen_not N number k p.1 g (omega arith) e
-    ]
-
-pub apart_same : (N : ℕ → ℕ) (m i j : ℕ) → Apart N m → i < m → j < m → N i ≡ N j → i ≡ j
-apart_same N m i j h li lj e =
-    elim (cases_lt i j) [
-      | inl l ↦ absurd (seen_not N (N j) j (h j lj) i l e)
-      | inr g ↦ elim (cases_lt j i) [ inl l ↦ absurd (seen_not N (N i) i (h i li) j l (sym e)) | inr k ↦ omega arith ]
     ]
 
 pub kept_apart : (N M : ℕ → ℕ) (m : ℕ) → ((g : ℕ) → g < m → M g ≡ N g) → Apart N m → Apart M m

@@ -63,8 +63,8 @@ module _ (s : Stores) (t n : ℕ) (r : StoredPoints) (h : Sound s) (room : Admit
   pub counted_variations : take (s.added + 1) (set s.variations s.added cell) ≡ take s.added s.variations ++ (cell ∷ [])
   counted_variations = rw add-one (take-suc-set s.variations s.added cell room.variations)
 
-  kept : (field : GlyphCell → ℕ) → field (one_more s) ≡ field (last_cell s) → (i : ℕ) → field (get_or cells i blank_glyph) ≡ field (get_or s.glyphs i blank_glyph)
-  kept field e = field_kept field s.glyphs (s.begun - 1) (one_more s) in_cells e
+  kept : {X : Type 0} (field : GlyphCell → X) → field (one_more s) ≡ field (last_cell s) → (i : ℕ) → field (get_or cells i blank_glyph) ≡ field (get_or s.glyphs i blank_glyph)
+  kept {X} field e = field_kept field s.glyphs (s.begun - 1) (one_more s) in_cells e
 
   counted_firsts : Firsts s.begun cells
   counted_firsts i l =
@@ -81,9 +81,9 @@ module _ (s : Stores) (t n : ℕ) (r : StoredPoints) (h : Sound s) (room : Admit
   counted_chained : Chained s.begun cells
   counted_chained =
       subst (λ (m : ℕ). Heads (number_at cells) (head_at cells) s.begun m × Nexts (number_at cells) (next_at cells) s.begun m) (sym (length-set s.glyphs (s.begun - 1) (one_more s))) (
-        kept_heads (number_at s.glyphs) (head_at s.glyphs) (next_at s.glyphs) (number_at cells) (head_at cells) (next_at cells) s.begun (length s.glyphs)
+        kept_heads (number_at s.glyphs) (number_at cells) (head_at s.glyphs) (next_at s.glyphs) (head_at cells) (next_at cells) s.begun (length s.glyphs)
             (λ g _. kept (λ c. c.number) refl g) (kept (λ c. c.head) refl) (λ g _. kept (λ c. c.next) refl g) h.chained.0,
-        kept_nexts (number_at s.glyphs) (head_at s.glyphs) (next_at s.glyphs) (number_at cells) (head_at cells) (next_at cells) s.begun (length s.glyphs)
+        kept_nexts (number_at s.glyphs) (number_at cells) (head_at s.glyphs) (next_at s.glyphs) (head_at cells) (next_at cells) s.begun (length s.glyphs)
             (λ g _. kept (λ c. c.number) refl g) (kept (λ c. c.head) refl) (λ g _. kept (λ c. c.next) refl g) h.chained.1,
       )
 

@@ -8,19 +8,19 @@ use Rattle.variations.specs.declared.delta.GlyphDelta.{GlyphDelta}
 use Rattle.variations.specs.Deltas.{delta_of, deltas_of}
 use Rattle.tuples.specs.declared.choice.StoredPoints.{StoredPoints}
 use Rattle.sets.specs.declared.cells.VariationCell.{VariationCell}
-use Rattle.sets.specs.declared.tent.Part.TheVariants.{Peak, Start, End}
-use Rattle.sets.specs.declared.tent.Tent.{Tent}
+use Rattle.tents.specs.declared.tent.Tent.{Tent}
 use Rattle.sets.specs.Cells.{variations_in, deltas_in}
-use Rattle.sets.specs.Given.{part_of, given, variation_call}
-use Rattle.sets.specs.Layout.{Stores, account_in, lent_in, dealt, deal, groups, read, tents_of}
+use Rattle.tents.specs.Tents.{given}
+use Rattle.sets.specs.Given.{variation_call}
+use Rattle.sets.specs.Layout.{Stores, account_in, dealt, deal, groups, read, tents_of}
 use Rattle.sets.specs.Sound.{Sound}
 use Rattle.sets.specs.Writing.{last_cell, front, Admitted}
 use Rattle.sets.proofs.Deal.{deal_snoc, deal_more, groups_more, add_snoc, counts, length_dealt, glyphs_are}
 use Rattle.sets.proofs.Enter.{values_more, counted, one_more, cell_for, counted_cells, counted_variations}
-use Rattle.sets.proofs.Filled.{filled, filled_sound, filled_room, values_are, deltas_are, values_length, deltas_length, front_length, moved_length}
+use Rattle.sets.proofs.Filled.{peak_of, start_of, end_of, filled, filled_sound, filled_room, values_are, deltas_are, values_length, deltas_length, front_length, moved_length}
 use Rattle.sets.proofs.Lists.{groups_snoc}
 
-tents_are : (ts : List Tent) → tents_of (map (part_of Peak) ts) (map (part_of Start) ts) (map (part_of End) ts) ≡ map tent (map given ts)
+tents_are : (ts : List Tent) → tents_of (map peak_of ts) (map start_of ts) (map end_of ts) ≡ map tent (map given ts)
 tents_are [] = refl
 tents_are (t ∷ ts) = ap (λ (r : List account.Tent). tent (given t) ∷ r) (tents_are ts)
 
@@ -43,13 +43,13 @@ module _ (s : Stores) (ts : List Tent) (ds : List GlyphDelta) (h : Sound s) (r :
   at = 3 * s.axes * s.added
 
   abbrev ps : List ℤ
-  ps = map (part_of Peak) ts
+  ps = map peak_of ts
 
   abbrev ss : List ℤ
-  ss = map (part_of Start) ts
+  ss = map start_of ts
 
   abbrev es : List ℤ
-  es = map (part_of End) ts
+  es = map end_of ts
 
   abbrev cs : List VariationCell
   cs = take s.added s.variations
@@ -79,9 +79,9 @@ module _ (s : Stores) (ts : List Tent) (ds : List GlyphDelta) (h : Sound s) (r :
 
   new_is : read s.axes (length ds) (drop (3 * s.axes * length cs) (filled s ts ds).values) (drop (deltas_in cs) (filled s ts ds).deltas) ≡ new
   new_is =
-      let lp = length-map ts (part_of Peak) in
-      let ls = length-map ts (part_of Start) in
-      let le = length-map ts (part_of End) in
+      let lp = length-map ts peak_of in
+      let ls = length-map ts start_of in
+      let le = length-map ts end_of in
       let v : drop (3 * s.axes * length cs) (filled s ts ds).values ≡ ((ps ++ ss) ++ es) ++ drop (at + (length ts + length ts + length ts)) s.values =
       ap (drop (3 * s.axes * length cs)) (values_are s ts ds h room) ∙ drop_at (take at s.values) _ (3 * s.axes * length cs) (front_length s ts ds h room ∙ sym start_is) in
       let d : drop (deltas_in cs) (filled s ts ds).deltas ≡ ds ++ drop (s.moved + length ds) s.deltas =
@@ -130,12 +130,4 @@ module _ (s : Stores) (ts : List Tent) (ds : List GlyphDelta) (h : Sound s) (r :
       let f3 : length (filled s ts ds).values - 3 * s.axes * (s.added + 1) ≡ length s.values - at - 3 * s.axes = omega arith in
       let lm = length-map ds delta_of in
       let f4 : length (filled s ts ds).deltas - (s.moved + length ds) ≡ length s.deltas - s.moved - length (deltas_of ds) = omega arith in
-      cc
-
-  pub entered_lent : lent_in (counted (filled s ts ds) (length ds) r) ≡ lent_in s
-  entered_lent =
-      let l1 = length-set s.glyphs (s.begun - 1) (one_more s) in
-      let l2 = length-set s.variations s.added (cell_for s (length ds) r) in
-      let l3 = values_length s ts ds h room in
-      let l4 = deltas_length s ts ds h room in
       cc

@@ -9,48 +9,51 @@ use Rattle.variations.specs.Deltas.{deltas_of}
 use Rattle.tuples.specs.declared.choice.StoredPoints.{StoredPoints}
 use Rattle.tuples.specs.Choice.{StoredAs}
 use Rattle.sets.specs.declared.cells.VariationCell.{VariationCell}
-use Rattle.sets.specs.declared.tent.Part.TheVariants.{Peak, Start, End}
-use Rattle.sets.specs.declared.tent.Tent.{Tent}
-use Rattle.sets.specs.Given.{part_of}
+use Rattle.tents.specs.declared.tent.Tent.{Tent}
+use Rattle.tents.specs.Tents.{tent_of}
 use Rattle.sets.specs.Layout.{Stores}
 use Rattle.sets.specs.Sound.{Sound, Chosen, ShortCells, short_value, short_delta}
-use Rattle.sets.specs.Writing.{with_values, with_deltas, Admitted}
+use Rattle.sets.specs.Writing.{with_values, with_deltas, laid, Admitted}
 use Rattle.sets.proofs.Choices.{chosen_more}
 use Rattle.sets.proofs.Enter.{values_more, cell_for, counted_variations}
 use Rattle.sets.proofs.Lists.{all_append}
 
+-- the three values of a tent
+abbrev pub peak_of : Tent → ℤ
+peak_of t = t.peak
+
+abbrev pub start_of : Tent → ℤ
+start_of t = (tent_of t).start
+
+abbrev pub end_of : Tent → ℤ
+end_of t = (tent_of t).end
+
 -- the values and the deltas of a variation behind those in use
 abbrev pub filled : Stores → List Tent → List GlyphDelta → Stores
 filled s ts ds =
-    with_deltas
-    (with_values s
-    (paste
-    (paste (paste s.values (3 * s.axes * s.added) (map (part_of Peak) ts) (length ts))
-    (3 * s.axes * s.added + length ts) (map (part_of Start) ts) (length ts))
-    (3 * s.axes * s.added + length ts + length ts) (map (part_of End) ts) (length ts)))
-    (paste s.deltas s.moved ds (length ds))
+    with_deltas (with_values s (laid s.values (3 * s.axes * s.added) ts (length ts))) (paste s.deltas s.moved ds (length ds))
 
 module _ (s : Stores) (ts : List Tent) (ds : List GlyphDelta) (h : Sound s) (room : Admitted s (length ts) (length ds)) where
   abbrev at : ℕ
   at = 3 * s.axes * s.added
 
   abbrev ps : List ℤ
-  ps = map (part_of Peak) ts
+  ps = map peak_of ts
 
   abbrev ss : List ℤ
-  ss = map (part_of Start) ts
+  ss = map start_of ts
 
   abbrev es : List ℤ
-  es = map (part_of End) ts
+  es = map end_of ts
 
   in_front : at ≤ length s.values
   in_front = h.within.2
 
   pub values_are : (filled s ts ds).values ≡ take at s.values ++ (((ps ++ ss) ++ es) ++ drop (at + (length ts + length ts + length ts)) s.values)
   values_are =
-      let lp = length-map ts (part_of Peak) in
-      let ls = length-map ts (part_of Start) in
-      let le = length-map ts (part_of End) in
+      let lp = length-map ts peak_of in
+      let ls = length-map ts start_of in
+      let le = length-map ts end_of in
       let l1 = length-append ps ss in
       let l2 = length-append (ps ++ ss) es in
       let i : at + length ts + length ts ≡ at + (length ts + length ts) = omega arith in
@@ -64,9 +67,9 @@ module _ (s : Stores) (ts : List Tent) (ds : List GlyphDelta) (h : Sound s) (roo
 
   pub values_length : length (filled s ts ds).values ≡ length s.values
   values_length =
-      let lp = length-map ts (part_of Peak) in
-      let ls = length-map ts (part_of Start) in
-      let le = length-map ts (part_of End) in
+      let lp = length-map ts peak_of in
+      let ls = length-map ts start_of in
+      let le = length-map ts end_of in
       let r = room.values in
       let e1 = length-paste s.values at ps (length ts) (omega arith) (omega arith) in
       let e2 = length-paste (paste s.values at ps (length ts)) (at + length ts) ss (length ts) (omega arith) (omega arith) in
@@ -86,6 +89,21 @@ module _ (s : Stores) (ts : List Tent) (ds : List GlyphDelta) (h : Sound s) (roo
 
   deltas_kept : take s.moved (filled s ts ds).deltas ≡ take s.moved s.deltas
   deltas_kept = ap (take s.moved) deltas_are ∙ take_at (take s.moved s.deltas) _ s.moved moved_length
+
+  -- with the values, and not yet the deltas
+  pub valued_sound : Sound (with_values s (filled s ts ds).values)
+  valued_sound =
+      let l = values_length in
+      record {
+        within = (h.within.0, h.within.1, omega (arith, h.within.2), h.within.3);
+        counted = h.counted;
+        placed = h.placed;
+        chained = h.chained;
+        numbered = h.numbered;
+        few = h.few;
+        chosen = h.chosen;
+        short = (ap (all short_value) values_kept ∙ h.short.0, h.short.1);
+      }
 
   pub filled_sound : Sound (filled s ts ds)
   filled_sound =
@@ -118,9 +136,9 @@ module _ (s : Stores) (ts : List Tent) (ds : List GlyphDelta) (h : Sound s) (roo
 
   values_in_use : take (3 * s.axes * (s.added + 1)) (filled s ts ds).values ≡ take at s.values ++ ((ps ++ ss) ++ es)
   values_in_use =
-      let lp = length-map ts (part_of Peak) in
-      let ls = length-map ts (part_of Start) in
-      let le = length-map ts (part_of End) in
+      let lp = length-map ts peak_of in
+      let ls = length-map ts start_of in
+      let le = length-map ts end_of in
       let l1 = length-append ps ss in
       let l2 = length-append (ps ++ ss) es in
       let l3 = length-append (take at s.values) ((ps ++ ss) ++ es) in
@@ -152,21 +170,3 @@ module _ (s : Stores) (ts : List Tent) (ds : List GlyphDelta) (h : Sound s) (roo
       subst (λ (cs : List VariationCell). Chosen cs (take (s.moved + length ds) (filled s ts ds).deltas)) (sym e)
       (subst (λ (es : List GlyphDelta). Chosen (take s.added s.variations ++ (cell_for s (length ds) r ∷ [])) es) (sym deltas_in_use)
       (chosen_more (take s.added s.variations) (cell_for s (length ds) r) (take s.moved s.deltas) ds h.chosen (h.counted.1 ∙ sym m) refl is))
-
--- the four writes, one after another
-pub stored : (s t1 t2 t3 t4 : Stores) (at : ℕ) (ts : List Tent) (ds : List GlyphDelta) →
-    at ≡ 3 * s.axes * s.added →
-    t1 ≡ with_values s (paste s.values at (map (part_of Peak) ts) (length ts)) →
-    t2 ≡ with_values t1 (paste t1.values (at + length ts) (map (part_of Start) ts) (length ts)) →
-    t3 ≡ with_values t2 (paste t2.values (at + length ts + length ts) (map (part_of End) ts) (length ts)) →
-    t4 ≡ with_deltas t3 (paste t3.deltas t3.moved ds (length ds)) →
-    t4 ≡ filled s ts ds
-stored s t1 t2 t3 t4 at ts ds e e1 e2 e3 e4 =
-    e4
-    ∙ ap (λ (t : Stores). with_deltas t (paste t.deltas t.moved ds (length ds)))
-    (e3
-    ∙ ap (λ (t : Stores). with_values t (paste t.values (at + length ts + length ts) (map (part_of End) ts) (length ts)))
-    (e2 ∙ ap (λ (t : Stores). with_values t (paste t.values (at + length ts) (map (part_of Start) ts) (length ts))) e1))
-    ∙ ap (λ n. with_deltas
-    (with_values s (paste (paste (paste s.values n (map (part_of Peak) ts) (length ts)) (n + length ts) (map (part_of Start) ts) (length ts)) (n + length ts + length ts) (map (part_of End) ts) (length ts)))
-    (paste s.deltas s.moved ds (length ds))) e

@@ -6,6 +6,7 @@ mod Behind
 mod Choices
 mod Enter
 mod Filled
+mod Laid
 mod Entered
 mod Admit
 mod Shown

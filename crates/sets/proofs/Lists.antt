@@ -9,7 +9,7 @@ use Rattle.sets.specs.Cells.{variations_in, blank_glyph, number_at, count_at}
 use Rattle.sets.specs.Layout.{groups}
 
 -- one field of every cell, after a write of one cell
-module _ (field : GlyphCell → ℕ) (cells : List GlyphCell) (i : ℕ) (c : GlyphCell) where
+module _ {X : Type 0} (field : GlyphCell → X) (cells : List GlyphCell) (i : ℕ) (c : GlyphCell) where
   pub field_same : i < length cells → field (get_or (set cells i c) i blank_glyph) ≡ field c
   field_same l = ap field (get_or-set_same cells i c blank_glyph l)
 

@@ -1,5 +1,5 @@
 -- The values that a set holds are signed 16-bit ones.
-use Rattle.std.proofs.Common.{◌≡◌, ℕ, ◌*◌, true, List, [], ◌∷◌, take, drop, ℤ, subst}
+use Rattle.std.proofs.Common.{◌≡◌, ℕ, ◌*◌, true, List, [], ◌∷◌, map, take, refl, drop, ℤ, subst}
 use Rattle.std.specs.List.{AllByRecursion}
 use Rattle.std.proofs.ByRecursion.{All-take, All-drop, All-map}
 use Rattle.std.proofs.lemmas.Bool.{ltb-true, lt-ltb, and_parts, and_from}
@@ -9,6 +9,8 @@ use Rattle.variations.specs.declared.delta.GlyphDelta.{GlyphDelta}
 use Rattle.variations.specs.Deltas.{delta_of}
 use Rattle.sets.specs.declared.cells.GlyphCell.{GlyphCell}
 use Rattle.sets.specs.declared.cells.VariationCell.{VariationCell}
+use Rattle.tents.specs.declared.tent.Tent.{Tent}
+use Rattle.tents.specs.Tents.{tent_of}
 use Rattle.sets.specs.Layout.{Stores, tents_of, deal, dealt, groups, account_in}
 use Rattle.sets.specs.Sound.{Sound, short_value, short_delta}
 use Rattle.sets.proofs.Deal.{dealt_in_use}
@@ -17,9 +19,9 @@ use Rattle.sets.proofs.Lists.{all_true, true_all}
 abbrev ShortCell : GlyphDelta → Type 0
 ShortCell d = ShortDelta (delta_of d)
 
--- the tests say what they test
-pub values_tested : (xs : List ℤ) → AllByRecursion Short xs → all short_value xs ≡ true
-values_tested xs h = all_true Short short_value (λ z q. lt-ltb _ _ q) xs h
+pub tents_tested : (part : Tent → ℤ) → ((t : Tent) → ShortTent (tent_of t) → Short (part t)) → (ts : List Tent) → AllByRecursion (λ t. ShortTent (tent_of t)) ts → all short_value (map part ts) ≡ true
+tents_tested part short [] h = refl
+tents_tested part short (t ∷ ts) h = and_from _ _ (lt-ltb _ _ (short t h.0)) (tents_tested part short ts h.1)
 
 pub deltas_tested : (ds : List GlyphDelta) → AllByRecursion (λ d. ShortDelta (delta_of d)) ds → all short_delta ds ≡ true
 deltas_tested ds h = all_true ShortCell short_delta (λ d q. and_from _ _ (lt-ltb _ _ q.0) (lt-ltb _ _ q.1)) ds h

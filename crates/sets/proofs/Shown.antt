@@ -1,6 +1,6 @@
 -- Where a variation and a glyph lie in the stores.
 use Rattle.std.proofs.Common.{◌≡◌, ℕ, zero, suc, ◌+◌, ◌*◌, ◌<◌, ◌≤◌, List, [], ◌∷◌, ◌++◌, map, length, get_or, take, drop, ℤ, sym, refl, ap, ◌∙◌, le_of_suc-le-suc, not-suc-le-zero, mul-le-mul, mul-zero, mul-suc, arith, length-drop, take-append-drop, length-take-le, get_or-take, take-take, drop-drop}
-use Rattle.std.proofs.lemmas.List.{length-map}
+use Rattle.std.proofs.lemmas.List.{length-map, drop-take}
 use Rattle.std.proofs.lemmas.Bool.{eq-eqb, ne_eqb}
 use Rattle.format.specs.Account as account
 use Rattle.format.specs.Account.{Variation}
@@ -113,6 +113,25 @@ ends_of [] ss es e f = sym (none_left es f)
 ends_of (p ∷ ps) [] es e f = absurd (omega arith)
 ends_of (p ∷ ps) (s ∷ ss) [] e f = absurd (omega arith)
 ends_of (p ∷ ps) (s ∷ ss) (x ∷ es) e f = ap (λ (r : List ℤ). x ∷ r) (ends_of ps ss es (omega arith) (omega arith))
+
+-- the first 3 a values, in three parts
+module _ (a : ℕ) (xs : List ℤ) where
+  all_three : take (3 * a) xs ≡ take (a + (a + a)) xs
+  all_three = let e : 3 * a ≡ a + (a + a) = omega arith in ap (λ (n : ℕ). take n xs) e
+
+  pub first_third : take a (take (3 * a) xs) ≡ take a xs
+  first_third = take-take a (3 * a) xs (omega arith)
+
+  behind_first : drop a (take (3 * a) xs) ≡ take (a + a) (drop a xs)
+  behind_first = ap (drop a) all_three ∙ drop-take a (a + a) xs
+
+  pub second_third : take a (drop a (take (3 * a) xs)) ≡ take a (drop a xs)
+  second_third = ap (take a) behind_first ∙ take-take a (a + a) (drop a xs) (omega arith)
+
+  pub last_third : drop a (drop a (take (3 * a) xs)) ≡ take a (drop (2 * a) xs)
+  last_third =
+      let e : a + a ≡ 2 * a = omega arith in
+      ap (drop a) behind_first ∙ drop-take a a (drop a xs) ∙ ap (take a) (drop-drop a a xs ∙ ap (λ (n : ℕ). drop n xs) e)
 
 -- the three rows of a variation
 module _ (s : Stores) (h : Sound s) (i at : ℕ) (l : i < s.added) (is : at ≡ 3 * s.axes * i) where

@@ -1,9 +1,12 @@
 -- What is asked of the stores, and done to them, when a variation is put in.
-use Rattle.std.specs.Prelude.{◌≡◌, ℕ, ◌+◌, ◌-◌, ◌*◌, ◌<◌, ◌≤◌, List, length, take, drop, ℤ, slice_index_or}
+use Rattle.std.specs.Prelude.{◌≡◌, ℕ, ◌+◌, ◌-◌, ◌*◌, ◌<◌, ◌≤◌, List, map, length, take, drop, ℤ, slice_index_or}
+use Rattle.std.proofs.Math.Seq.{paste}
 use Rattle.format.specs.Account.{Variation}
 use Rattle.variations.specs.declared.delta.GlyphDelta.{GlyphDelta}
 use Rattle.sets.specs.declared.cells.GlyphCell.{GlyphCell}
 use Rattle.sets.specs.Cells.{variations_in, blank_glyph}
+use Rattle.tents.specs.declared.tent.Tent.{Tent}
+use Rattle.tents.specs.Tents.{tent_of}
 use Rattle.sets.specs.Layout.{Stores, dealt}
 
 -- the stores with other values
@@ -33,6 +36,12 @@ with_deltas s ds = record {
   added = s.added;
   moved = s.moved;
 }
+
+-- the values after the first n tents were put in from a place on: their peaks, their starts, their ends
+abbrev pub laid : List ℤ → ℕ → List Tent → ℕ → List ℤ
+laid xs at ts n =
+    let a = length ts in
+    paste (paste (paste xs at (map (λ t. t.peak) ts) n) (at + a) (map (λ t. (tent_of t).start) ts) n) (at + a + a) (map (λ t. (tent_of t).end) ts) n
 
 -- the cell of the glyph begun last
 abbrev pub last_cell : Stores → GlyphCell

@@ -8,7 +8,7 @@ use super::refusal::Refusal;
 
 const MAX_AXES: u16 = 64;
 
-#[derive(Clone, Copy)]
+#[derive(Clone, Copy, PartialEq, Eq, Debug)]
 pub struct AxisCount {
     count: u16,
     ghost few: { count ≤ most_axes },
@@ -30,5 +30,15 @@ impl AxisCount {
         ensures few { result ≤ most_axes }
     {
         self.count
+    }
+}
+
+impl TryFrom<u16> for AxisCount {
+    type Error = Refusal;
+
+    ghost try_from_gives = { λ count result. MatchResult result (λ a. (first_of (axis_count_conditions count) ≡ none) × (a.count ≡ count)) (λ e. first_of (axis_count_conditions count) ≡ some (declined_of e)) };
+
+    fn try_from(count: u16) -> Result<AxisCount, Refusal> {
+        AxisCount::new(count)
     }
 }

@@ -2,18 +2,19 @@
 ghost use Rattle.std.specs.Prelude.{◌≡◌};
 ghost use Rattle.sets.specs.Cells.{blank_glyph, blank_variation};
 
+use crate::view::Span;
 use tuples::choice::StoredPoints;
 
-#[derive(Clone, Copy)]
+#[derive(Clone, Copy, PartialEq, Eq, Debug)]
 pub struct GlyphCell {
     pub number: u16,
     // how many variations the glyph has, and the place of the first
     pub variations: u16,
     pub first: usize,
-    // 1 more than the place of the last glyph in the bucket of this cell's place, once that bucket has one; before that, anything
-    pub head: usize,
-    // 1 more than the place of the glyph before this one in its bucket, or 0
-    pub next: usize,
+    // the place of the last glyph in the bucket of this cell's place, once that bucket has one; before that, anything
+    pub head: Option<usize>,
+    // the place of the glyph before this one in its bucket
+    pub next: Option<usize>,
 }
 
 #[derive(Clone, Copy)]
@@ -34,8 +35,18 @@ impl GlyphCell {
             number: 0,
             variations: 0,
             first: 0,
-            head: 0,
-            next: 0,
+            head: None,
+            next: None,
+        }
+    }
+
+    // Where the glyph's variations lie.
+    pub(crate) fn span(&self) -> Span
+        ensures { result ≡ record { first = self.now.first; count = self.now.variations } }
+    {
+        Span {
+            first: self.first,
+            count: usize::from(self.variations),
         }
     }
 }

@@ -5,5 +5,5 @@ pub mod axis;
 pub mod cells;
 pub mod refusal;
 pub mod set;
-pub mod tent;
+pub mod stores;
 pub mod view;

@@ -3,7 +3,10 @@ ghost use Rattle.std.specs.Prelude.{◌≡◌};
 ghost use Rattle.format.specs.Account.{set};
 ghost use Rattle.sets.specs.Refusals.{declined_of, named};
 
-#[derive(Clone, Copy)]
+use std::error::Error;
+use std::fmt;
+
+#[derive(Clone, Copy, PartialEq, Eq, Debug)]
 pub enum Refusal {
     TooManyAxes,
     NumberTooLarge(u16),
@@ -37,8 +40,7 @@ impl Refusal {
             Refusal::TooManyDeltas(_, _) => 6,
             Refusal::DeltaCount(_, _) => 7,
             Refusal::TooManyVariations(_, _) => 8,
-            Refusal::NoGlyphCell(_) => 9,
-            Refusal::NoVariationCells(_, _) => 9,
+            Refusal::NoGlyphCell(_) | Refusal::NoVariationCells(_, _) => 9,
             Refusal::NumbersNotFull => 10,
             Refusal::TooFewCountCells => 11,
             Refusal::DataTooLarge(_, _) => 12,
@@ -52,22 +54,22 @@ impl Refusal {
         ensures { named result ≡ (declined_of self).glyph }
     {
         match self {
-            Refusal::TooManyAxes => None,
-            Refusal::NumberTooLarge(g) => Some(g),
-            Refusal::AlreadyBegun(g) => Some(g),
-            Refusal::NoGlyph => None,
-            Refusal::TentCount(g, _) => Some(g),
-            Refusal::TooManyDeltas(g, _) => Some(g),
-            Refusal::DeltaCount(g, _) => Some(g),
-            Refusal::TooManyVariations(g, _) => Some(g),
-            Refusal::NoGlyphCell(g) => Some(g),
-            Refusal::NoVariationCells(g, _) => Some(g),
-            Refusal::NumbersNotFull => None,
-            Refusal::TooFewCountCells => None,
-            Refusal::DataTooLarge(g, _) => Some(g),
-            Refusal::HeadersTooLarge(g) => Some(g),
-            Refusal::GlyphsTooLarge => None,
-            Refusal::SinkTooSmall => None,
+            Refusal::NumberTooLarge(g)
+            | Refusal::AlreadyBegun(g)
+            | Refusal::TentCount(g, _)
+            | Refusal::TooManyDeltas(g, _)
+            | Refusal::DeltaCount(g, _)
+            | Refusal::TooManyVariations(g, _)
+            | Refusal::NoGlyphCell(g)
+            | Refusal::NoVariationCells(g, _)
+            | Refusal::DataTooLarge(g, _)
+            | Refusal::HeadersTooLarge(g) => Some(g),
+            Refusal::TooManyAxes
+            | Refusal::NoGlyph
+            | Refusal::NumbersNotFull
+            | Refusal::TooFewCountCells
+            | Refusal::GlyphsTooLarge
+            | Refusal::SinkTooSmall => None,
         }
     }
 
@@ -76,22 +78,38 @@ impl Refusal {
         ensures { named result ≡ (declined_of self).variation }
     {
         match self {
-            Refusal::TooManyAxes => None,
-            Refusal::NumberTooLarge(_) => None,
-            Refusal::AlreadyBegun(_) => None,
-            Refusal::NoGlyph => None,
-            Refusal::TentCount(_, v) => Some(v),
-            Refusal::TooManyDeltas(_, v) => Some(v),
-            Refusal::DeltaCount(_, v) => Some(v),
-            Refusal::TooManyVariations(_, v) => Some(v),
-            Refusal::NoGlyphCell(_) => None,
-            Refusal::NoVariationCells(_, v) => Some(v),
-            Refusal::NumbersNotFull => None,
-            Refusal::TooFewCountCells => None,
-            Refusal::DataTooLarge(_, v) => Some(v),
-            Refusal::HeadersTooLarge(_) => None,
-            Refusal::GlyphsTooLarge => None,
-            Refusal::SinkTooSmall => None,
+            Refusal::TentCount(_, v)
+            | Refusal::TooManyDeltas(_, v)
+            | Refusal::DeltaCount(_, v)
+            | Refusal::TooManyVariations(_, v)
+            | Refusal::NoVariationCells(_, v)
+            | Refusal::DataTooLarge(_, v) => Some(v),
+            Refusal::TooManyAxes
+            | Refusal::NumberTooLarge(_)
+            | Refusal::AlreadyBegun(_)
+            | Refusal::NoGlyph
+            | Refusal::NoGlyphCell(_)
+            | Refusal::NumbersNotFull
+            | Refusal::TooFewCountCells
+            | Refusal::HeadersTooLarge(_)
+            | Refusal::GlyphsTooLarge
+            | Refusal::SinkTooSmall => None,
         }
     }
 }
+
+// Number and layer, then glyph and variation as far as they are concerned.
+impl fmt::Display for Refusal {
+    fn fmt<W: fmt::Write>(&self, f: &mut fmt::Formatter<W>) -> fmt::Result {
+        write!(f, "refused {} set", self.number())?;
+        if let Some(glyph) = self.glyph() {
+            write!(f, " glyph {glyph}")?;
+        }
+        if let Some(variation) = self.variation() {
+            write!(f, " variation {variation}")?;
+        }
+        Ok(())
+    }
+}
+
+impl Error for Refusal {}

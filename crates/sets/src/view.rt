@@ -13,7 +13,7 @@ pub struct GlyphDeltas<'s> {
 }
 
 // Where the variations of a glyph lie among those of the set: the place of the first, and how many there are.
-#[derive(Clone, Copy)]
+#[derive(Clone, Copy, PartialEq, Eq, Debug)]
 pub struct Span {
     pub first: usize,
     pub count: usize,

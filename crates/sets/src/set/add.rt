@@ -2,18 +2,18 @@
 ghost use Rattle.std.specs.Prelude.{◌≡◌, ◌+◌, ◌*◌, ◌<◌, ◌≤◌, ◌||◌, map, length, OnOk, nat_lt};
 ghost use Rattle.std.proofs.Math.Seq.{paste};
 ghost use Rattle.std.specs.List.{AllByRecursion};
-ghost use Rattle.format.specs.Account.{refusal, next, accepted, other_count, ShortDelta};
-ghost use Rattle.format.specs.Bytes.{Short};
+ghost use Rattle.format.specs.Account.{refusal, next, accepted, other_count, ShortDelta, ShortTent};
 ghost use Rattle.variations.specs.Deltas.{delta_of};
-ghost use Rattle.sets.specs.Given.{part_of, variation_call};
+ghost use Rattle.tents.specs.Tents.{tent_of};
+ghost use Rattle.sets.specs.Given.{variation_call};
 ghost use Rattle.sets.specs.OfSet.{stores, account_of, lent_of, SameWhereRefused};
 ghost use Rattle.sets.specs.Refusals.{answer_of};
-ghost use Rattle.sets.specs.Writing.{with_values, with_deltas, last_cell, last_variations, Admitted};
+ghost use Rattle.sets.specs.Writing.{with_values, with_deltas, laid, last_cell, last_variations, Admitted};
 
 use super::Set;
 use crate::cells::{GlyphCell, VariationCell};
 use crate::refusal::Refusal;
-use crate::tent::{Part, Tent};
+use tents::tent::Tent;
 use tuples::choice::stored_points;
 use variations::delta::GlyphDelta;
 
@@ -21,44 +21,35 @@ const MAX_DELTAS: usize = 32767;
 
 const MAX_VARIATIONS: u16 = 4095;
 
-// A delta as it is; its coordinates are of 16 bits.
-fn copied(delta: &GlyphDelta) -> GlyphDelta
-    ensures is { result ≡ delta.now }
-    ensures short { ShortDelta (delta_of result) }
+// Puts tents into the values from a place on: their peaks, then their starts, then their ends.
+fn put_tents(values: &mut [i16], at: usize, tents: &[Tent])
+    requires { at + 3 * length tents.now ≤ length values.old }
+    ensures is { values.new ≡ laid values.old at tents.now (length tents.now) }
+    ensures short { AllByRecursion (λ t. ShortTent (tent_of t)) tents.now }
 {
-    GlyphDelta {
-        x: delta.x,
-        y: delta.y,
-        required: delta.required,
+    let n = tents.len();
+    for (i, tent) in tents.iter().enumerate() {
+        let bounds = tent.extent();
+        values[at + i] = tent.peak;
+        values[at + n + i] = bounds.min;
+        values[at + n + n + i] = bounds.max;
+    }
+}
+
+// Puts deltas into the store from a place on.
+fn put_deltas(store: &mut [GlyphDelta], at: usize, deltas: &[GlyphDelta])
+    requires { at + length deltas.now ≤ length store.old }
+    ensures is { store.new ≡ paste store.old at deltas.now (length deltas.now) }
+    ensures short { AllByRecursion (λ d. ShortDelta (delta_of d)) deltas.now }
+{
+    for (i, delta) in deltas.iter().enumerate() {
+        // read one by one: so the check knows that both coordinates are of 16 bits
+        let GlyphDelta { x, y, required } = *delta;
+        store[at + i] = GlyphDelta { x, y, required };
     }
 }
 
 impl<'a> Set<'a> {
-    // Puts one value of each tent behind those in use, from the place `at` on.
-    fn put_values(&mut self, at: usize, tents: &[Tent], which: Part)
-        requires behind { 3 * self.old.axes.count * self.old.added ≤ at }
-        requires room { at + length tents.now ≤ length self.old.values.now }
-        ensures len { length self.new.values.now ≡ length self.old.values.now }
-        ensures is { stores self.new ≡ with_values (stores self.old) (paste self.old.values.now at (map (part_of which) tents.now) (length tents.now)) }
-        ensures short { AllByRecursion Short (map (part_of which) tents.now) }
-    {
-        for i in 0..tents.len() {
-            self.values[at + i] = tents[i].part(which);
-        }
-    }
-
-    // Puts the deltas behind those in use.
-    fn put_deltas(&mut self, deltas: &[GlyphDelta])
-        requires { self.old.moved + length deltas.now ≤ length self.old.deltas.now }
-        ensures is { stores self.new ≡ with_deltas (stores self.old) (paste self.old.deltas.now self.old.moved deltas.now (length deltas.now)) }
-        ensures short { AllByRecursion (λ d. ShortDelta (delta_of d)) deltas.now }
-    {
-        let at = self.moved;
-        for i in 0..deltas.len() {
-            self.deltas[at + i] = copied(&deltas[i]);
-        }
-    }
-
     // The cell of the glyph begun last.
     fn last(&self) -> GlyphCell
         requires { 0 < self.now.begun }
@@ -73,25 +64,18 @@ impl<'a> Set<'a> {
         requires { 0 < self.now.begun }
         ensures { result ≡ other_count (last_variations (stores self.now)) n }
     {
-        let count = self.last().variations as usize;
-        if count == 0 {
-            return false;
-        }
-        self.variations[self.added - count].deltas as usize != n
+        let count = usize::from(self.last().variations);
+        count > 0 && usize::from(self.variations[self.added - count].deltas) != n
     }
 
     // Whether there are too few free cells for a variation with n deltas.
     fn no_room(&self, n: usize) -> bool
         ensures { result ≡ (nat_lt (account_of self.now).free.variation 1 || nat_lt (account_of self.now).free.axis (3 * (account_of self.now).axes) || nat_lt (account_of self.now).free.delta n) }
     {
-        let each = 3 * self.axes.get() as usize;
-        if self.variations.len() - self.added < 1 {
-            return true;
-        }
-        if self.values.len() - each * self.added < each {
-            return true;
-        }
-        self.deltas.len() - self.moved < n
+        let each = self.values_each();
+        self.variations.len() == self.added
+            || self.values.len() - each * self.added < each
+            || self.deltas.len() - self.moved < n
     }
 
     // Tests a variation, in the order of the refusals' numbers.
@@ -102,30 +86,27 @@ impl<'a> Set<'a> {
         if self.begun == 0 {
             return Err(Refusal::NoGlyph);
         }
-        let last = self.last();
-        if tents.len() != self.axes.get() as usize {
-            return Err(Refusal::TentCount(last.number, last.variations));
+        let GlyphCell {
+            number,
+            variations,
+            ..
+        } = self.last();
+        if tents.len() != usize::from(self.axes.get()) {
+            return Err(Refusal::TentCount(number, variations));
         }
         if deltas.len() > MAX_DELTAS {
-            return Err(Refusal::TooManyDeltas(last.number, last.variations));
+            return Err(Refusal::TooManyDeltas(number, variations));
         }
         if self.unlike_first(deltas.len()) {
-            return Err(Refusal::DeltaCount(last.number, last.variations));
+            return Err(Refusal::DeltaCount(number, variations));
         }
-        if last.variations >= MAX_VARIATIONS {
-            return Err(Refusal::TooManyVariations(last.number, last.variations));
+        if variations >= MAX_VARIATIONS {
+            return Err(Refusal::TooManyVariations(number, variations));
         }
         if self.no_room(deltas.len()) {
-            return Err(Refusal::NoVariationCells(last.number, last.variations));
+            return Err(Refusal::NoVariationCells(number, variations));
         }
         Ok(())
-    }
-
-    // How many axis values are in use.
-    pub(crate) fn used_values(&self) -> usize
-        ensures { result ≡ 3 * self.now.axes.count * self.now.added }
-    {
-        3 * self.axes.get() as usize * self.added
     }
 
     // Puts a variation that nothing speaks against into the stores.
@@ -135,30 +116,18 @@ impl<'a> Set<'a> {
         ensures lent { lent_of self.new ≡ lent_of self.old }
     {
         let stored = stored_points(deltas);
-        let a = tents.len();
-        let at = self.used_values();
-        self.put_values(at, tents, Part::Peak);
-        self.put_values(at + a, tents, Part::Start);
-        self.put_values(at + a + a, tents, Part::End);
-        self.put_deltas(deltas);
-        let place = self.added;
+        let at = self.axis_values().len();
         let start = self.moved;
-        let last = self.begun - 1;
-        let cell = self.glyphs[last];
-        self.variations[place] = VariationCell {
+        put_tents(self.values, at, tents);
+        put_deltas(self.deltas, start, deltas);
+        self.variations[self.added] = VariationCell {
             deltas: deltas.len() as u16,
             start,
             stored,
         };
-        self.glyphs[last] = GlyphCell {
-            number: cell.number,
-            variations: cell.variations + 1,
-            first: cell.first,
-            head: cell.head,
-            next: cell.next,
-        };
-        self.added = place + 1;
-        self.moved = start + deltas.len();
+        self.glyphs[self.begun - 1].variations += 1;
+        self.added += 1;
+        self.moved += deltas.len();
     }
 
     // Adds a variation to the glyph begun last. A refused call changes nothing.

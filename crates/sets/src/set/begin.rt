@@ -6,25 +6,25 @@ ghost use Rattle.sets.specs.Refusals.{answer_of};
 
 use super::Set;
 use crate::axis::AxisCount;
-use crate::cells::{GlyphCell, VariationCell};
+use crate::cells::GlyphCell;
 use crate::refusal::Refusal;
-use variations::delta::GlyphDelta;
+use crate::stores::Stores;
 
 // The largest number of a glyph.
 const LAST_NUMBER: u16 = 65534;
 
 impl<'a> Set<'a> {
     // A set without glyphs. The cells may hold anything: nothing is read of them, and nothing is reset.
-    pub fn open(
-        axes: AxisCount,
-        glyphs: &'a mut [GlyphCell],
-        variations: &'a mut [VariationCell],
-        values: &'a mut [i16],
-        deltas: &'a mut [GlyphDelta],
-    ) -> Set<'a>
-        ensures account { account_of result ≡ opened axes.count (record { glyph = length glyphs.old; variation = length variations.old; axis = length values.old; delta = length deltas.old }) }
-        ensures stores { stores result ≡ record { axes = axes.count; names = glyphs.entry.ghost_name ∷ variations.entry.ghost_name ∷ values.entry.ghost_name ∷ deltas.entry.ghost_name ∷ []; glyphs = glyphs.old; variations = variations.old; values = values.old; deltas = deltas.old; begun = 0; added = 0; moved = 0 } }
+    pub fn open(axes: AxisCount, lent: Stores<'a>) -> Set<'a>
+        ensures account { account_of result ≡ opened axes.count (record { glyph = length lent.entry.glyphs.now; variation = length lent.entry.variations.now; axis = length lent.entry.values.now; delta = length lent.entry.deltas.now }) }
+        ensures stores { stores result ≡ record { axes = axes.count; names = lent.entry.glyphs.ghost_name ∷ lent.entry.variations.ghost_name ∷ lent.entry.values.ghost_name ∷ lent.entry.deltas.ghost_name ∷ []; glyphs = lent.entry.glyphs.now; variations = lent.entry.variations.now; values = lent.entry.values.now; deltas = lent.entry.deltas.now; begun = 0; added = 0; moved = 0 } }
     {
+        let Stores {
+            glyphs,
+            variations,
+            values,
+            deltas,
+        } = lent;
         Set {
             axes,
             glyphs,
@@ -46,25 +46,16 @@ impl<'a> Set<'a> {
         ensures lent { lent_of self.new ≡ lent_of self.old }
     {
         let at = self.begun;
-        let b = number as usize % self.glyphs.len();
-        let link = self.chain(b);
-        let first = self.added;
-        let head = self.glyphs[at].head;
+        let bucket = usize::from(number) % self.glyphs.len();
+        let next = self.chain(bucket);
         self.glyphs[at] = GlyphCell {
             number,
             variations: 0,
-            first,
-            head,
-            next: link,
+            first: self.added,
+            next,
+            ..self.glyphs[at]
         };
-        let cell = self.glyphs[b];
-        self.glyphs[b] = GlyphCell {
-            number: cell.number,
-            variations: cell.variations,
-            first: cell.first,
-            head: at + 1,
-            next: cell.next,
-        };
+        self.glyphs[bucket].head = Some(at);
         self.begun = at + 1;
     }
 
@@ -78,7 +69,7 @@ impl<'a> Set<'a> {
         if number > LAST_NUMBER {
             return Err(Refusal::NumberTooLarge(number));
         }
-        if self.has(number as usize) {
+        if self.has(usize::from(number)) {
             return Err(Refusal::AlreadyBegun(number));
         }
         if self.begun == self.glyphs.len() {

@@ -13,33 +13,22 @@ impl<'a> Set<'a> {
     fn all_below(&self) -> bool
         ensures { result ≡ all (λ g. nat_lt g.number (length (glyphs_of self.now))) (glyphs_of self.now) }
     {
-        for i in 0..self.begun {
-            if self.glyphs[i].number as usize >= self.begun {
-                return false;
-            }
-        }
-        true
+        self.glyph_cells()
+            .iter()
+            .all(|cell| usize::from(cell.number) < self.begun)
     }
 
     // Whether each number below the number of glyphs is begun.
     fn all_begun(&self) -> bool
         ensures { result ≡ all (λ n. begun n (glyphs_of self.now)) (listed 0 (length (glyphs_of self.now)) (λ n. n)) }
     {
-        for i in 0..self.begun {
-            if !self.has(i) {
-                return false;
-            }
-        }
-        true
+        (0..self.begun).all(|number| self.has(number))
     }
 
     // Whether the n numbers begun are 0 to n - 1.
     pub fn numbers_full(&self) -> bool
         ensures { result ≡ numbers_full (glyphs_of self.now) }
     {
-        if !self.all_below() {
-            return false;
-        }
-        self.all_begun()
+        self.all_below() && self.all_begun()
     }
 }

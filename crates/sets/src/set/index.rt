@@ -1,29 +1,34 @@
 // How a glyph is found by its number: by chains in the glyph cells.
-ghost use Rattle.std.specs.Prelude.{◌≡◌, ℕ, ◌<◌, length, MatchOption, ◌≢◌};
+ghost use Rattle.std.specs.Prelude.{◌≡◌, ℕ, ◌<◌, length, take, MatchOption, ◌≢◌};
 ghost use Rattle.format.specs.Account.{begun};
 ghost use Rattle.sets.specs.Cells.{number_at};
 ghost use Rattle.sets.specs.Index.{previous};
 ghost use Rattle.sets.specs.OfSet.{glyphs_of};
 
 use super::Set;
+use crate::cells::GlyphCell;
 
 impl<'a> Set<'a> {
-    // The first link of bucket b: its head, unless no glyph has written that.
-    pub(crate) fn chain(&self, b: usize) -> usize
-        requires { b < length self.now.glyphs.now }
-        ensures { result ≡ previous (number_at self.now.glyphs.now) (length self.now.glyphs.now) b self.now.begun }
+    // The cells of the glyphs begun.
+    pub(crate) fn glyph_cells(&self) -> &[GlyphCell]
+        ensures are { result.now ≡ take self.now.begun self.now.glyphs.now }
+        ensures len { length result.now ≡ self.now.begun }
     {
-        let x = self.glyphs[b].head;
-        if x == 0 {
-            return 0;
+        &self.glyphs[..self.begun]
+    }
+
+    // The place of the last glyph in a bucket: its head, unless no glyph has written that.
+    pub(crate) fn chain(&self, bucket: usize) -> Option<usize>
+        requires { bucket < length self.now.glyphs.now }
+        ensures { result ≡ previous (number_at self.now.glyphs.now) (length self.now.glyphs.now) bucket self.now.begun }
+    {
+        let at = self.glyphs[bucket].head?;
+        let cell = self.glyph_cells().get(at)?;
+        if usize::from(cell.number) % self.glyphs.len() == bucket {
+            Some(at)
+        } else {
+            None
         }
-        if x > self.begun {
-            return 0;
-        }
-        if self.glyphs[x - 1].number as usize % self.glyphs.len() != b {
-            return 0;
-        }
-        x
     }
 
     // The place of the glyph with the number. Numbers that leave the same remainder modulo the number n of cells are
@@ -31,17 +36,14 @@ impl<'a> Set<'a> {
     pub(crate) fn find(&self, number: usize) -> Option<usize>
         ensures { MatchOption result ((g : ℕ) → g < self.now.begun → number_at self.now.glyphs.now g ≢ number) (λ p. (p < self.now.begun) × (number_at self.now.glyphs.now p ≡ number)) }
     {
-        let n = self.glyphs.len();
-        if n == 0 {
-            return None;
-        }
-        let mut at = self.chain(number % n);
-        while at > 0 {
-            let j = at - 1;
-            if self.glyphs[j].number as usize == number {
-                return Some(j);
+        let bucket = number.checked_rem(self.glyphs.len())?;
+        let mut at = self.chain(bucket);
+        while let Some(place) = at {
+            let cell = self.glyphs[place];
+            if usize::from(cell.number) == number {
+                return Some(place);
             }
-            at = self.glyphs[j].next;
+            at = cell.next;
         }
         None
     }
@@ -50,9 +52,6 @@ impl<'a> Set<'a> {
     pub fn has(&self, number: usize) -> bool
         ensures { result ≡ begun number (glyphs_of self.now) }
     {
-        match self.find(number) {
-            Some(_) => true,
-            None => false,
-        }
+        self.find(number).is_some()
     }
 }

@@ -37,22 +37,21 @@ impl<'a> Set<'a> {
         self.added
     }
 
-    // Where the axis values of variation i start.
-    fn place(&self, i: usize) -> usize
-        requires { i < self.now.added }
-        ensures is { result ≡ 3 * self.now.axes.count * i }
-        ensures fits { result + 3 * self.now.axes.count ≤ length self.now.values.now }
+    // How many values each variation has: a peak, a start and an end on each axis.
+    pub(crate) fn values_each(&self) -> usize
+        ensures is { result ≡ 3 * self.now.axes.count }
+        ensures few { result ≤ 192 }
     {
-        3 * self.axis_count() as usize * i
+        3 * usize::from(self.axis_count())
     }
 
-    // One value for each axis, from the place `at` on.
-    fn row(&self, at: usize) -> &[i16]
-        requires { at + self.now.axes.count ≤ length self.now.values.now }
-        ensures { result.now ≡ take self.now.axes.count (drop at self.now.values.now) }
+    // The axis values of variation i: its peak, then its starts, then its ends.
+    fn tents_at(&self, i: usize) -> &[i16]
+        requires { i < self.now.added }
+        ensures { result.now ≡ take (3 * self.now.axes.count) (drop (3 * self.now.axes.count * i) self.now.values.now) }
     {
-        let a = self.axis_count() as usize;
-        &self.values[at..at + a]
+        let each = self.values_each();
+        &self.values[each * i..each * i + each]
     }
 
     // The n deltas from the place `start` on.
@@ -69,7 +68,7 @@ impl<'a> Set<'a> {
         ensures { deltas_of result.now ≡ (get_or (all_variations (glyphs_of self.now)) i no_variation).deltas }
     {
         let cell = self.variations[i];
-        self.deltas_from(cell.start, cell.deltas as usize)
+        self.deltas_from(cell.start, usize::from(cell.deltas))
     }
 
     // Variation i, which there is.
@@ -77,11 +76,9 @@ impl<'a> Set<'a> {
         requires { i < self.now.added }
         ensures { Shows (account_of self.now).axes result (slice_index_or (all_variations (glyphs_of self.now)) i no_variation) }
     {
-        let a = self.axis_count() as usize;
-        let at = self.place(i);
-        let peak = self.row(at);
-        let starts = self.row(at + a);
-        let ends = self.row(at + 2 * a);
+        let axes = usize::from(self.axis_count());
+        let (peak, bounds) = self.tents_at(i).split_at(axes);
+        let (starts, ends) = bounds.split_at(axes);
         GlyphDeltas {
             peak,
             starts,
@@ -105,28 +102,17 @@ impl<'a> Set<'a> {
     pub fn span(&self, number: usize) -> Option<Span>
         ensures { MatchOption result (false ≡ begun number (glyphs_of self.now)) (λ p. Spans (glyphs_of self.now) number p) }
     {
-        match self.find(number) {
-            Some(p) => {
-                let cell = self.glyphs[p];
-                Some(Span {
-                    first: cell.first,
-                    count: cell.variations as usize,
-                })
-            }
-            None => None,
-        }
+        let place = self.find(number)?;
+        let cell = self.glyphs[place];
+        Some(cell.span())
     }
 
     // The variations of the glyph at a place, in the order in which the glyphs were begun.
     pub fn span_at(&self, at: usize) -> Option<Span>
         ensures { MatchOption result (length (glyphs_of self.now) ≤ at) (λ p. Lies (glyphs_of self.now) at p) }
     {
-        if at >= self.glyph_count() {
-            return None;
-        }
-        let first = self.glyphs[at].first;
-        let count = self.glyphs[at].variations as usize;
-        Some(Span { first, count })
+        let cell = self.glyph_cells().get(at)?;
+        Some(cell.span())
     }
 
     // The axis values of all variations. The peak of variation i is the first value for each axis from 3 × axes × i on.
@@ -134,7 +120,6 @@ impl<'a> Set<'a> {
         ensures long { length result.now ≡ 3 * (account_of self.now).axes * variation_count (glyphs_of self.now) }
         ensures rows { rows (account_of self.now).axes result.now (variation_count (glyphs_of self.now)) ≡ peaks_seen (glyphs_of self.now) }
     {
-        let n = self.used_values();
-        &self.values[0..n]
+        &self.values[..self.values_each() * self.variation_count()]
     }
 }

@@ -1,29 +1,34 @@
-use Rattle.std.proofs.Common.{◌≡◌, ℕ, true, sym, ap, ◌∙◌, subst, inl, inr, arith}
-use Rattle.std.proofs.lemmas.Bool.{cases_eq}
-use Rattle.format.specs.Account.{begun}
+use Rattle.std.proofs.Common.{◌≡◌, ℕ, ◌+◌, ◌<◌, Bool, true, false, MatchBool, List, length, refl, sym, ap, ◌∙◌, subst, arith, rules, tests}
+use Rattle.std.specs.List.{AllWithin, HoldsAt, range_with_len}
+use Rattle.std.proofs.lemmas.Iterator.{cases_from_all, YieldsList-from_range}
+use Rattle.std.proofs.lemmas.List.FromFn.{length-range_with_len, get_or-range_with_len}
+use Rattle.format.specs.Account.{Glyph, begun}
 use Rattle.format.specs.Bytes.{all}
 use Rattle.format.specs.Glyphs.{listed}
-use Rattle.sets.specs.Layout.{account_in}
-use Rattle.sets.specs.OfSet.{stores, sound_of, account_of}
+use Rattle.sets.specs.OfSet.{stores, sound_of, glyphs_of}
 use Rattle.sets.proofs.Full.{glyphs_long, listed_all, listed_not}
 use Rattle.sets.proofs.set.Set.all_begun.Goals as goal
 
-pub loop-i-preserved : goal.loop-i-preserved
-loop-i-preserved c k l = elim (cases_eq k c.loop-i.i) [
-  | inl e ↦ subst (λ (x : ℕ). true ≡ begun x (account_of c.args.self.now).glyphs) (sym e) c.if-not-has.ensures
-  | inr ne ↦ c.loop-i.invariant k (omega arith)
-]
+module _ (gs : List Glyph) (n : ℕ) where
+  abbrev numbers : List ℕ
+  numbers = range_with_len 0 n
 
-pub returns-then-not-has : goal.returns-then-not-has
-returns-then-not-has c =
-    let s = c.args.self.now in
-    let gs = (account_in (stores s)).glyphs in
-    listed_not (λ n. begun n gs) 0 s.begun c.loop-i.i (omega arith) (omega arith) c.if-not-has.ensures
-    ∙ ap (λ (m : ℕ). all (λ n. begun n gs) (listed 0 m (λ n. n))) (sym (glyphs_long (stores s) (sound_of s)))
+  tested : (r : Bool) →
+      MatchBool r (AllWithin (λ x. true ≡ begun x gs) numbers 0 (length numbers)) ((k : ℕ) × (k < length numbers) × HoldsAt (λ x. false ≡ begun x gs) numbers k) →
+      r ≡ all (λ x. begun x gs) (listed 0 n (λ x. x))
+  tested true h =
+      let e = length-range_with_len 0 n in
+      listed_all (λ x. begun x gs) 0 n (λ j a l. let z : 0 + j ≡ j = omega arith in subst (λ (x : ℕ). true ≡ begun x gs) (get_or-range_with_len 0 n j 0 (omega arith) ∙ z) (h j 0 a (omega arith)))
+  tested false h =
+      let e = length-range_with_len 0 n in
+      let z : 0 + h.0 ≡ h.0 = omega arith in
+      listed_not (λ x. begun x gs) 0 n h.0 (omega arith) (omega (arith, h.1)) (subst (λ (x : ℕ). false ≡ begun x gs) (get_or-range_with_len 0 n h.0 0 (omega (arith, h.1)) ∙ z) (h.2 0))
 
 pub returns : goal.returns
 returns c =
     let s = c.args.self.now in
-    let gs = (account_in (stores s)).glyphs in
-    listed_all (λ n. begun n gs) 0 s.begun (λ k a l. c.loop-i.invariant k (omega arith))
-    ∙ ap (λ (m : ℕ). all (λ n. begun n gs) (listed 0 m (λ n. n))) (sym (glyphs_long (stores s) (sound_of s)))
+    let gs = glyphs_of s in
+    tested gs s.begun c.all.result
+    (cases_from_all _ _ _ (λ x. true ≡ begun x gs) (λ x. false ≡ begun x gs) c.all.ensures.ran (YieldsList-from_range 0 s.begun s.begun refl (omega arith))
+    (λ x q k. search (rules, tests)) (λ x q k. search (rules, tests)))
+    ∙ ap (λ (m : ℕ). all (λ x. begun x gs) (listed 0 m (λ x. x))) (sym (glyphs_long (stores s) (sound_of s)))

@@ -1,26 +1,39 @@
-use Rattle.std.proofs.Common.{ℕ, ◌<◌, ltb, sym, ap, ◌∙◌, subst, inl, inr, arith}
-use Rattle.std.proofs.lemmas.Bool.{cases_eq}
+use Rattle.std.proofs.Common.{◌≡◌, ℕ, ◌<◌, ◌≤◌, Bool, true, false, ltb, MatchBool, List, length, take, sym, ap, ◌∙◌, subst, arith, get_or-take, length-take-le, rules, tests}
+use Rattle.std.specs.List.{AllWithin, HoldsAt}
+use Rattle.std.proofs.lemmas.Iterator.{cases_from_all, YieldsList-from_slice}
 use Rattle.format.specs.Bytes.{all}
-use Rattle.sets.specs.Cells.{number_at}
-use Rattle.sets.specs.Layout.{dealt, account_in}
-use Rattle.sets.specs.OfSet.{stores, sound_of}
+use Rattle.sets.specs.declared.cells.GlyphCell.{GlyphCell}
+use Rattle.sets.specs.declared.set.Set.{Set}
+use Rattle.sets.specs.Cells.{blank_glyph}
+use Rattle.sets.specs.Layout.{dealt}
+use Rattle.sets.specs.OfSet.{stores, sound_of, glyphs_of}
 use Rattle.sets.proofs.Full.{glyphs_long, below_all, below_not}
 use Rattle.sets.proofs.set.Set.all_below.Goals as goal
 
-pub loop-i-preserved : goal.loop-i-preserved
-loop-i-preserved c k l = elim (cases_eq k c.loop-i.i) [
-  | inl e ↦ subst (λ (x : ℕ). number_at c.args.self.now.glyphs.now x < c.args.self.now.begun) (sym e) (omega arith)
-  | inr ne ↦ c.loop-i.invariant k (omega arith)
-]
+module _ (s : Set) where
+  abbrev cells : List GlyphCell
+  cells = take s.begun s.glyphs.now
 
-pub returns-then-self-i : goal.returns-then-self-i
-returns-then-self-i c =
-    let s = c.args.self.now in
-    below_not s.begun s.begun s.glyphs.now (dealt (stores s)) c.loop-i.i s.within.0 c.loop-i-test.true c.if-self-i.true
-    ∙ ap (λ (n : ℕ). all (λ g. ltb g.number n) (account_in (stores s)).glyphs) (sym (glyphs_long (stores s) (sound_of s)))
+  long : length cells ≡ s.begun
+  long = length-take-le s.begun s.glyphs.now s.within.0
+
+  tested : (r : Bool) →
+      MatchBool r (AllWithin (λ x. x.number < s.begun) cells 0 (length cells)) ((k : ℕ) × (k < length cells) × HoldsAt (λ x. s.begun ≤ x.number) cells k) →
+      r ≡ all (λ g. ltb g.number s.begun) (glyphs_of s)
+  tested true h =
+      let e = long in
+      below_all s.begun s.begun s.glyphs.now (dealt (stores s)) s.within.0
+      (λ i l. subst (λ (x : GlyphCell). x.number < s.begun) (get_or-take s.begun s.glyphs.now i blank_glyph l) (h i blank_glyph (omega arith) (omega arith)))
+  tested false h =
+      let e = long in
+      let l : h.0 < s.begun = omega (arith, h.1) in
+      below_not s.begun s.begun s.glyphs.now (dealt (stores s)) h.0 s.within.0 l
+      (subst (λ (x : GlyphCell). s.begun ≤ x.number) (get_or-take s.begun s.glyphs.now h.0 blank_glyph l) (h.2 blank_glyph))
 
 pub returns : goal.returns
 returns c =
     let s = c.args.self.now in
-    below_all s.begun s.begun s.glyphs.now (dealt (stores s)) s.within.0 (λ k l. c.loop-i.invariant k (omega arith))
-    ∙ ap (λ (n : ℕ). all (λ g. ltb g.number n) (account_in (stores s)).glyphs) (sym (glyphs_long (stores s) (sound_of s)))
+    tested s c.all.result
+    (cases_from_all _ _ _ (λ x. x.number < s.begun) (λ x. s.begun ≤ x.number) c.all.ensures.ran (YieldsList-from_slice (take s.begun s.glyphs.now) (cc))
+    (λ x q k. search (rules, tests)) (λ x q k. search (rules, tests)))
+    ∙ ap (λ (n : ℕ). all (λ g. ltb g.number n) (glyphs_of s)) (sym (glyphs_long (stores s) (sound_of s)))

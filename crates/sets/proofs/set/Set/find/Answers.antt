@@ -1,20 +1,28 @@
-use Rattle.std.proofs.Common.{ℕ, length, sym, subst}
+use Rattle.std.proofs.Common.{ℕ, ◌<◌, length, Option, sym, ap, ◌∙◌, subst}
 use Rattle.sets.specs.Cells.{number_at, next_at}
-use Rattle.sets.proofs.Chains.{Walk, walk_starts, walk_more, walk_less}
+use Rattle.sets.specs.Index.{previous}
+use Rattle.sets.proofs.Chains.{Walk, left, walk_starts, walk_more, walk_less}
 use Rattle.sets.proofs.set.Set.find.Goals as goal
 
 pub loop-at-init : goal.loop-at-init
 loop-at-init c =
     let s = c.args.self.now in
-    subst (λ (x : ℕ). Walk (number_at s.glyphs.now) s.begun (length s.glyphs.now) c.args.number x) (sym c.chain-at.ensures)
-    (walk_starts (number_at s.glyphs.now) s.begun (length s.glyphs.now) c.args.number)
-
-pub loop-at-preserved : goal.loop-at-preserved
-loop-at-preserved c =
-    let s = c.args.self.now in
-    walk_more (number_at s.glyphs.now) (next_at s.glyphs.now) s.begun (length s.glyphs.now) c.args.number c.loop-at.at s.chained.1 c.loop-at.invariant c.loop-at-test.true c.if-self-j.false
+    let cs = s.glyphs.now in
+    subst (λ (x : Option ℕ). Walk (number_at cs) s.begun (length cs) c.args.number x)
+    (sym (c.chain-at.ensures ∙ ap (λ (b : ℕ). previous (number_at cs) (length cs) b s.begun) c.in_ok-bucket.ensures.1))
+    (walk_starts (number_at cs) s.begun (length cs) c.args.number)
 
 pub loop-at-smaller : goal.loop-at-smaller
 loop-at-smaller c =
     let s = c.args.self.now in
-    walk_less (number_at s.glyphs.now) (next_at s.glyphs.now) s.begun (length s.glyphs.now) c.args.number c.loop-at.at s.chained.1 c.loop-at.invariant c.loop-at-test.true
+    let cs = s.glyphs.now in
+    let w = subst (λ (x : Option ℕ). Walk (number_at cs) s.begun (length cs) c.args.number x) c.in-Some.is c.loop-at.invariant in
+    subst (λ (x : Option ℕ). left (next_at cs c.in-Some.place) < left x) (sym c.in-Some.is)
+    (walk_less (number_at cs) (next_at cs) s.begun (length cs) c.args.number c.in-Some.place s.chained.1 w)
+
+pub loop-at-preserved : goal.loop-at-preserved
+loop-at-preserved c =
+    let s = c.args.self.now in
+    let cs = s.glyphs.now in
+    let w = subst (λ (x : Option ℕ). Walk (number_at cs) s.begun (length cs) c.args.number x) c.in-Some.is c.loop-at.invariant in
+    walk_more (number_at cs) (next_at cs) s.begun (length cs) c.args.number c.in-Some.place s.chained.1 w (λ e. c.if-from-number.false (c.from.ensures ∙ e))
