@@ -1,12 +1,12 @@
 -- What the writes of a count table leave. Assumes nothing.
-use Rattle.std.proofs.Common.{◌≡◌, ℕ, ◌+◌, ◌<◌, ◌≤◌, ◌≢◌, List, length, get_or, set, sym, refl, ap, ◌∙◌, subst, inl, inr, arith, length-set, get_or-set_other, get_or-set_same}
+use Rattle.std.proofs.Common.{◌≡◌, ℕ, ◌+◌, ◌<◌, ◌≤◌, ◌≢◌, List, length, get_or, set, Option, Some, sym, refl, ap, ◌∙◌, subst, inl, inr, arith, length-set, get_or-set_other, get_or-set_same}
 use Rattle.std.proofs.lemmas.Bool.{cases_eq, cases_lt}
 use Rattle.counts.specs.declared.cells.CountCell.{CountCell}
-use Rattle.counts.specs.Cells.{blank, first_at, count_at, head_at, next_at, rank_at, order_at, joining, with_count, with_head, with_next, entered, chained}
+use Rattle.counts.specs.Cells.{blank, first_at, count_at, head_at, next_at, rank_at, order_at, entered, chained}
 use Rattle.counts.specs.Tables.{LeavesRanks}
 
 -- one field of every cell, after a write of one cell
-module _ (field : CountCell → ℕ) (cells : List CountCell) (i : ℕ) (c : CountCell) where
+module _ {V : Type 0} (field : CountCell → V) (cells : List CountCell) (i : ℕ) (c : CountCell) where
   pub field_same : i < length cells → field (get_or (set cells i c) i blank) ≡ field c
   field_same l = ap field (get_or-set_same cells i c blank l)
 
@@ -39,13 +39,13 @@ leaves_set n i cells c li l r o = record {
 -- ---- item i joins the class of item f
 module _ (cells : List CountCell) (i f : ℕ) (within : i < length cells) (le : f ≤ i) where
   abbrev start : CountCell
-  start = joining (get_or cells i blank) f
+  start = record (get_or cells i blank) { first = f; count = 0 }
 
   abbrev noted : List CountCell
   noted = set cells i start
 
   abbrev bumped : CountCell
-  bumped = with_count (get_or noted f blank) (count_at noted f + 1)
+  bumped = record (get_or noted f blank) { count = count_at noted f + 1 }
 
   noted_long : f < length noted
   noted_long = simp length-set (omega arith)
@@ -96,13 +96,13 @@ module _ (cells : List CountCell) (i f : ℕ) (within : i < length cells) (le : 
 -- ---- item i comes first in the chain of bucket b
 module _ (cells : List CountCell) (i b : ℕ) (within : i < length cells) (bucket : b < length cells) where
   abbrev linked : CountCell
-  linked = with_next (get_or cells i blank) (head_at cells b)
+  linked = record (get_or cells i blank) { next = head_at cells b }
 
   abbrev hung : List CountCell
   hung = set cells i linked
 
   abbrev top : CountCell
-  top = with_head (get_or hung b blank) (i + 1)
+  top = record (get_or hung b blank) { head = Some i }
 
   hung_long : b < length hung
   hung_long = simp length-set bucket
@@ -123,7 +123,7 @@ module _ (cells : List CountCell) (i b : ℕ) (within : i < length cells) (bucke
   unfolding chained
   chained_nexts k ne = field_kept (λ x. x.next) hung b top hung_long refl k ∙ field_other (λ x. x.next) cells i linked k ne
 
-  pub chained_head : head_at (chained cells i b) b ≡ i + 1
+  pub chained_head : head_at (chained cells i b) b ≡ Some i
   unfolding chained
   chained_head = field_same (λ x. x.head) hung b top hung_long
 

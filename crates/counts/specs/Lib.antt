@@ -1,3 +1,4 @@
+pub mod Hashes
 pub mod Sameness
 pub mod Cells
 pub mod Tables
