@@ -1,5 +1,5 @@
 -- After classes are collected, sorted, marked and spread, the cells have their ranks. Assumes nothing.
-use Rattle.std.proofs.Common.{◌≡◌, ℕ, suc, ◌<◌, ◌≤◌, Bool, true, false, ◌≢◌, List, length, sym, ap, ◌∙◌, subst, arith}
+use Rattle.std.proofs.Common.{◌≡◌, ℕ, suc, ◌<◌, Bool, true, false, ◌≢◌, List, length, sym, ap, ◌∙◌, subst, arith}
 use Rattle.format.specs.Ranked.{count_below, first, is_first, before, rank}
 use Rattle.counts.specs.declared.cells.CountCell.{CountCell}
 use Rattle.counts.specs.Sameness.{Sameness}

@@ -3,7 +3,7 @@ use Rattle.std.proofs.Common.{◌≡◌, ℕ, suc, ◌%◌, ◌<◌, ◌≤◌, 
 use Rattle.std.proofs.lemmas.Bool.{both_ways, cases_lt}
 use Rattle.format.specs.Ranked.{first}
 use Rattle.counts.specs.Sameness.{Sameness}
-use Rattle.counts.specs.Chains.{Chained, Latest, Link, Reached, Walk}
+use Rattle.counts.specs.Chains.{Chained, Link, Reached, Walk}
 use Rattle.counts.proofs.Classes.{first_inside, first_alike, first_le, first_same, first_first}
 
 -- how far along a chain: 1 more than the item, or 0 at the end

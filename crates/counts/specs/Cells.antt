@@ -1,12 +1,13 @@
 -- What a count table's cells hold, and what its writes do. Assumes nothing.
-use Rattle.std.specs.Prelude.{ℕ, ◌+◌, Bool, false, ◌&&◌, List, get_or, set, Option, Some, None, ◌==◌, nat_le, nat_lt, slice_index_or, slice_set}
+use Rattle.std.specs.Prelude.{ℕ, ◌+◌, Bool, false, ◌&&◌, List, get_or, set, Option, ◌==◌, nat_le, nat_lt, slice_index_or, slice_set}
 use Rattle.counts.specs.declared.cells.CountCell.{CountCell}
+use Rattle.counts.specs.Links.{linked, no_link, to_item}
 
 -- the cell of zeros
 abbrev pub blank : CountCell
-blank = record { first = 0; count = 0; head = None; next = None; rank = 0; order = 0; marked = false }
+blank = record { first = 0; count = 0; head = no_link; next = no_link; rank = 0; order = 0; marked = false }
 
--- the fields of the cell of an item, a bucket or a rank
+-- what the cell of an item, a bucket or a rank says
 abbrev pub first_at : List CountCell → ℕ → ℕ
 first_at cells i = (get_or cells i blank).first
 
@@ -14,10 +15,10 @@ abbrev pub count_at : List CountCell → ℕ → ℕ
 count_at cells i = (get_or cells i blank).count
 
 abbrev pub head_at : List CountCell → ℕ → Option ℕ
-head_at cells i = (get_or cells i blank).head
+head_at cells i = linked (get_or cells i blank).head
 
 abbrev pub next_at : List CountCell → ℕ → Option ℕ
-next_at cells i = (get_or cells i blank).next
+next_at cells i = linked (get_or cells i blank).next
 
 abbrev pub rank_at : List CountCell → ℕ → ℕ
 rank_at cells i = (get_or cells i blank).rank
@@ -45,5 +46,5 @@ entered cells i f =
 -- first item i comes first in the chain of bucket b
 unfoldable pub chained : List CountCell → ℕ → ℕ → List CountCell
 chained cells i b =
-    let a = set cells i (record (slice_index_or cells i blank) { next = head_at cells b }) in
-    slice_set a b (record (slice_index_or a b blank) { head = Some i })
+    let a = set cells i (record (slice_index_or cells i blank) { next = (get_or cells b blank).head }) in
+    slice_set a b (record (slice_index_or a b blank) { head = to_item i })

@@ -2,6 +2,8 @@
 ghost use Rattle.std.specs.Prelude.{◌≡◌};
 ghost use Rattle.counts.specs.Cells.{blank, lists, repeats_as};
 
+use crate::link::Link;
+
 // One cell for each item.
 #[derive(Clone, Copy, PartialEq, Eq, Debug)]
 pub struct CountCell {
@@ -10,9 +12,9 @@ pub struct CountCell {
     // in a first item's cell: how many items are the same
     pub(crate) count: usize,
     // the last first item in the bucket of this number
-    pub(crate) head: Option<usize>,
+    pub(crate) head: Link,
     // the first item before this one in its bucket
-    pub(crate) next: Option<usize>,
+    pub(crate) next: Link,
     // the rank of the item's class
     pub(crate) rank: usize,
     // the first item of the class whose rank is this cell's number
@@ -36,8 +38,8 @@ impl CountCell {
         CountCell {
             first: 0,
             count: 0,
-            head: None,
-            next: None,
+            head: Link::NONE,
+            next: Link::NONE,
             rank: 0,
             order: 0,
             marked: false,

@@ -6,6 +6,7 @@ ghost use Rattle.counts.specs.Chains.{State};
 
 use crate::cells::CountCell;
 use crate::items::Items;
+use crate::link::Link;
 use crate::table::CountTable;
 use crate::too_few::TooFewCells;
 
@@ -31,7 +32,7 @@ fn chain(cells: &mut [CountCell], i: usize, b: usize)
     ensures { cells.new ≡ chained cells.old i b }
 {
     cells[i].next = cells[b].head;
-    cells[b].head = Some(i);
+    cells[b].head = Link::to(i);
 }
 
 // The first item that is the same as item i, of bucket b.
@@ -42,7 +43,7 @@ fn find<I: Items>(cells: &[CountCell], items: &I, i: usize, b: usize) -> usize
     ensures { result ≡ (class_of (I.size items.now) (I.alike items.now) i).first }
 {
     let mut at = cells[b].head;
-    while let Some(j) = at {
+    while let Some(j) = at.item() {
         if items.same(j, i) {
             return j;
         }
@@ -74,7 +75,7 @@ fn reset(cells: &mut [CountCell], n: usize)
     ensures rest { LeavesRanks n cells.old cells.new }
 {
     for cell in &mut cells[..n] {
-        cell.head = None;
+        cell.head = Link::NONE;
     }
 }
 

@@ -7,9 +7,9 @@ ghost use Rattle.counts.specs.Ranking.{listed, score_of, classes, rank_of, first
 ghost use Rattle.counts.specs.Heaps.{Entries, Apart};
 
 use crate::cells::{Class, CountCell};
-use crate::reading::Classes;
 use crate::heap::sort;
 use crate::items::{Items, Ranked};
+use crate::reading::Classes;
 use crate::table::CountTable;
 
 // Writes the first items of the classes into the first orders; how many there are.

@@ -4,4 +4,4 @@ use Rattle.counts.proofs.filling.chain.Goals as goal
 
 pub returns : goal.returns
 unfolding chained
-returns c = refl
+returns c = rw c.to.ensures refl

@@ -1,6 +1,5 @@
-use Rattle.std.proofs.Common.{refl, arith}
+use Rattle.std.proofs.Common.{refl}
 use Rattle.counts.specs.Cells.{entered}
-use Rattle.counts.proofs.Steps.{joined_fits}
 use Rattle.counts.proofs.filling.enter.Goals as goal
 
 pub returns : goal.returns

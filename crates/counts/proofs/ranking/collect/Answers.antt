@@ -1,4 +1,4 @@
-use Rattle.std.proofs.Common.{◌≡◌, ℕ, ◌<◌, ◌≤◌, Bool, true, false, length, get_or, sym, refl, ap, ◌∙◌, arith, rules}
+use Rattle.std.proofs.Common.{◌≡◌, ℕ, ◌<◌, Bool, true, false, length, get_or, sym, refl, ap, ◌∙◌, arith, rules}
 use Rattle.counts.specs.Cells.{blank, lists}
 use Rattle.counts.specs.Ranking.{listed}
 use Rattle.counts.proofs.Collecting.{collected_few, collected_skips, collected_more, collected_entries}

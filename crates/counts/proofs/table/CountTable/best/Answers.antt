@@ -1,7 +1,5 @@
-use Rattle.std.proofs.Common.{◌≡◌, ℕ, ◌<◌, List, Some, length, take, get_or, refl, sym, ap, ◌∙◌, subst, arith}
-use Rattle.counts.specs.declared.cells.Class.{Class}
+use Rattle.std.proofs.Common.{◌≡◌, ℕ, List, Some, length, take, sym, ap, ◌∙◌, subst}
 use Rattle.counts.specs.declared.cells.CountCell.{CountCell}
-use Rattle.counts.specs.Cells.{count_at}
 use Rattle.counts.specs.Tables.{Filled}
 use Rattle.counts.proofs.Fronts.{filled_front}
 use Rattle.counts.proofs.Standings.{leading_some, leading_none}

@@ -1,4 +1,4 @@
-use Rattle.std.proofs.Common.{◌≡◌, ℕ, refl, ◌∙◌, subst, arith}
+use Rattle.std.proofs.Common.{ℕ, refl, subst, arith}
 use Rattle.counts.specs.Tables.{LeavesRanks}
 use Rattle.counts.proofs.Steps.{leaves_same, leaves_more}
 use Rattle.counts.proofs.Adds.{state_none, state_all}

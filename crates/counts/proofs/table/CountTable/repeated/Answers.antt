@@ -1,4 +1,4 @@
-use Rattle.std.proofs.Common.{◌≡◌, length, take, sym, ap, ◌∙◌, arith, length-take-le}
+use Rattle.std.proofs.Common.{take, ◌∙◌, arith, length-take-le}
 use Rattle.counts.specs.Marking.{repeats_in}
 use Rattle.counts.proofs.Classes.{count_le}
 use Rattle.counts.proofs.Fronts.{filled_front}
