@@ -1,5 +1,5 @@
 -- The first items of the classes are written into the orders. Assumes nothing.
-use Rattle.std.proofs.Common.{◌≡◌, ℕ, ◌+◌, ◌<◌, ◌≤◌, true, false, ◌≢◌, List, length, set, sym, refl, ap, ◌∙◌, subst, inl, inr, arith}
+use Rattle.std.proofs.Common.{◌≡◌, ℕ, ◌+◌, ◌<◌, ◌≤◌, true, false, ◌≢◌, List, length, set, sym, ap, ◌∙◌, subst, inl, inr, arith}
 use Rattle.std.proofs.lemmas.Bool.{cases_eq}
 use Rattle.format.specs.Ranked.{count_below}
 use Rattle.counts.specs.declared.cells.CountCell.{CountCell}
@@ -8,7 +8,7 @@ use Rattle.counts.specs.Ranking.{listed, KeepsCounts}
 use Rattle.counts.specs.Heaps.{Entries, Apart}
 use Rattle.counts.proofs.Classes.{count_le, count_yes, count_no}
 use Rattle.counts.proofs.Steps.{field_same, field_other}
-use Rattle.counts.proofs.Swaps.{counts_same, counts_more, counts_set, listed_same}
+use Rattle.counts.proofs.Swaps.{counts_more, counts_set, listed_same}
 
 -- the first items below c are at the first k places
 pub record Collected (old : List CountCell) (c k : ℕ) (cells : List CountCell) : Type 0 where
@@ -17,15 +17,6 @@ pub record Collected (old : List CountCell) (c k : ℕ) (cells : List CountCell)
   pub heads : (i : ℕ) → i < k → listed old (order_at cells i) ≡ true
   pub apart : Apart k (order_at cells)
   pub rest : KeepsCounts old cells
-
-pub collected_none : (old : List CountCell) → Collected old 0 0 old
-collected_none old = record {
-  count = refl;
-  inside = λ i l. absurd (let z : ⊥ = omega arith in z);
-  heads = λ i l. absurd (let z : ⊥ = omega arith in z);
-  apart = λ i j l. absurd (let z : ⊥ = omega arith in z);
-  rest = counts_same old;
-}
 
 pub collected_few : (old : List CountCell) (c k : ℕ) (cells : List CountCell) → Collected old c k cells → k ≤ c
 collected_few old c k cells w = rw w.count (count_le c (listed old))
@@ -89,14 +80,12 @@ module _ (old : List CountCell) (c k : ℕ) (cells : List CountCell) (x : CountC
     rest = counts_more old cells (set cells k x) w.rest (counts_set k cells x within first count);
   }
 
-pub collected_entries : (old : List CountCell) (c k : ℕ) (cells : List CountCell) → c ≡ length cells → Collected old c k cells → Entries cells k
+pub collected_entries : (old : List CountCell) (c k : ℕ) (cells : List CountCell) → c ≡ length old → Collected old c k cells → Entries (length old) cells k
 collected_entries old c k cells end w = record {
+  each = w.rest.long;
   few = omega (arith, collected_few old c k cells w);
   heads = λ i l. record {
-    inside = omega (arith, w.inside i l);
+    inside = omega (arith, w.inside i l, w.rest.long);
     head = listed_same old cells w.rest (order_at cells i) ∙ w.heads i l;
   };
 }
-
-pub collected_count : (old : List CountCell) (n c k : ℕ) (cells : List CountCell) → c ≡ n → Collected old c k cells → k ≡ count_below n (listed old)
-collected_count old n c k cells end w = w.count ∙ ap (λ (m : ℕ). count_below m (listed old)) end

@@ -1,5 +1,5 @@
 -- Classes of more than one item are counted, and the items of the best class marked. Assumes nothing.
-use Rattle.std.proofs.Common.{◌≡◌, ℕ, ◌+◌, ◌<◌, ◌≤◌, Bool, ◌&&◌, cond, add-one, add-zero, zero-add, eqb, ltb, ◌≢◌, List, [], ◌∷◌, suc, count_by, length, get_or, set, Some, Option, sym, refl, ap, ◌∙◌, subst, inl, inr, arith, length-set, get_or-set_other, get_or-set_same, below_more}
+use Rattle.std.proofs.Common.{◌≡◌, ℕ, ◌+◌, ◌<◌, ◌≤◌, Bool, ◌&&◌, cond, add-one, add-zero, zero-add, eqb, ltb, ◌≢◌, List, [], ◌∷◌, suc, count_by, length, get_or, set, Option, sym, refl, ap, ◌∙◌, subst, inl, inr, arith, length-set, get_or-set_other, get_or-set_same, below_more}
 use Rattle.std.specs.List.{enumerate_from}
 use Rattle.std.proofs.lemmas.List.Sums.{sum_by-cons}
 use Rattle.std.proofs.lemmas.Bool.{cases_eq, ne_eqb, and_left}
@@ -8,8 +8,7 @@ use Rattle.counts.specs.declared.cells.CountCell.{CountCell}
 use Rattle.counts.specs.declared.cells.Class.{Class}
 use Rattle.counts.specs.Cells.{blank, repeats_as, first_at, count_at, marked_at}
 use Rattle.counts.specs.Tables.{Filled}
-use Rattle.counts.specs.Ranking.{class_ranked}
-use Rattle.counts.specs.Marking.{repeats, repeats_in, led_by, of_best, LeavesUnmarked}
+use Rattle.counts.specs.Marking.{repeats, repeats_in, led_by, LeavesUnmarked}
 use Rattle.counts.proofs.Classes.{count_ext}
 
 -- ---- what the cells of a filled table say
@@ -24,10 +23,6 @@ module _ {same : ℕ → ℕ → Bool} {n : ℕ} {cells : List CountCell} (t : F
 
   pub repeated_is : count_below n (repeats_in cells) ≡ count_below n (repeats n same)
   repeated_is = count_ext n (repeats_in cells) (repeats n same) repeats_is
-
-  pub best_led : (score : ℕ → ℕ) (best : Option Class) (i : ℕ) → i < n → best ≡ Some (class_ranked n same score 0) → led_by best (first_at cells i) ≡ of_best n same score i
-  best_led score best i l e =
-      ap (λ (o : Option Class). led_by o (first_at cells i)) e ∙ ap (λ (f : ℕ). led_by (Some (class_ranked n same score 0)) f) (t.firsts i l)
 
 -- the cells that say so, one by one
 abbrev says : ℕ × CountCell → Bool

@@ -2,7 +2,6 @@ pub mod Classes
 pub mod Steps
 pub mod Walks
 pub mod Adds
-pub mod Blanks
 pub mod RowPlaces
 pub mod Standings
 pub mod Swaps

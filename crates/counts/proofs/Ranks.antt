@@ -15,13 +15,13 @@ use Rattle.counts.proofs.Orders.{ranked_place, place_rank, rank_inside}
 
 -- the cells at the start, and with the classes collected, sorted and marked, and with the ranks spread
 module _ {alike : ℕ → ℕ → Bool} {n : ℕ} (s : Sameness alike n) (worth : ℕ → ℕ → ℕ) (k : ℕ) (start listing sorting marking spreading : List CountCell)
-    (each : length start ≡ n) (count : k ≡ count_below n (listed start)) (entries : Entries listing k) (apart : Apart k (order_at listing)) (listing-rest : KeepsCounts start listing)
+    (each : length start ≡ n) (count : k ≡ count_below n (listed start)) (entries : Entries n listing k) (apart : Apart k (order_at listing)) (listing-rest : KeepsCounts start listing)
     (sorted : Sorted (scored worth listing) 1 k (order_at sorting)) (moved : Shuffled k (order_at listing) (order_at sorting)) (sorting-rest : KeepsCounts listing sorting) where
   rest_sorting : KeepsCounts start sorting
   rest_sorting = counts_more start listing sorting listing-rest sorting-rest
 
-  pub entries_sorting : Entries sorting k
-  entries_sorting = entries_same k k listing sorting (omega arith) entries moved sorting-rest
+  pub entries_sorting : Entries n sorting k
+  entries_sorting = entries_same n k k listing sorting (omega arith) entries moved sorting-rest
 
   pub apart_sorting : Apart k (order_at sorting)
   apart_sorting = moved.apart k (omega arith) apart

@@ -78,7 +78,3 @@ module _ {alike : ℕ → ℕ → Bool} {n : ℕ} (s : Sameness alike n) {cells 
   leading_none worth m best end e h l =
       none_best l (subst (λ (x : ℕ). (k : ℕ) → k < x → listed cells k ≡ false) end
       (subst (λ (o : Option Leader). Leading (listed cells) (scored worth cells) m o) e h))
-
--- the best of some is one of them
-pub leading_inside : (heads : ℕ → Bool) (score : ℕ → ℕ) (m : ℕ) (best : Option Leader) (b : Leader) → best ≡ Some b → Leading heads score m best → b.first < m
-leading_inside heads score m best b e h = (subst (λ (o : Option Leader). Leading heads score m o) e h).inside

@@ -1,6 +1,6 @@
 -- What the writes of a count table leave. Assumes nothing.
 use Rattle.std.proofs.Common.{◌≡◌, ℕ, ◌+◌, ◌<◌, ◌≤◌, ◌≢◌, List, length, get_or, set, Some, sym, refl, add-one, ap, ◌∙◌, subst, inl, inr, arith, length-set, get_or-set_other, get_or-set_same}
-use Rattle.std.proofs.lemmas.Bool.{cases_eq, cases_lt}
+use Rattle.std.proofs.lemmas.Bool.{cases_eq}
 use Rattle.counts.specs.declared.cells.CountCell.{CountCell}
 use Rattle.counts.specs.Cells.{blank, first_at, count_at, head_at, next_at, rank_at, order_at, entered, chained}
 use Rattle.counts.specs.Links.{linked, to_item}
@@ -53,13 +53,6 @@ module _ (cells : List CountCell) (i f : ℕ) (within : i < length cells) (le : 
 
   noted_long : f < length noted
   noted_long = simp length-set (omega arith)
-
-  pub joined_fits : (f < i → count_at cells f ≤ i) → count_at noted f ≤ i
-  joined_fits h = elim (cases_lt f i) [
-    | inl l ↦ let ne : f ≢ i = omega arith in rw (field_other (λ x. x.count) cells i start f ne) (h l)
-    | inr l ↦ let e : f ≡ i = omega arith in
-        subst (λ (x : ℕ). count_at noted x ≤ i) (sym e) (rw (field_same (λ x. x.count) cells i start within) (omega arith))
-  ]
 
   pub entered_here : first_at (entered cells i f) i ≡ f
   unfolding entered

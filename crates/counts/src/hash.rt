@@ -1,6 +1,7 @@
 // A hash of numbers, which are mixed in one after the other.
 ghost use Rattle.std.specs.Prelude.{◌≡◌, ◌<◌};
 ghost use Rattle.counts.specs.Hashes.{mix};
+ghost use Rattle.counts.specs.declared.hash.TheConstants.{PRIME};
 
 // A hash is below this prime.
 const PRIME: u64 = 4294967291;
@@ -11,7 +12,7 @@ const FACTOR: u64 = 1103515245;
 #[derive(Clone, Copy, PartialEq, Eq, Debug)]
 pub struct Hash {
     state: u64,
-    ghost below: { state < 4294967291 },
+    ghost below: { state < PRIME },
 }
 
 impl Hash {

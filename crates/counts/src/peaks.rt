@@ -54,8 +54,7 @@ impl<'s> Peaks<'s> {
         requires { at + self.now.axes ≤ length self.now.values.now }
         ensures { result.now ≡ take self.now.axes (drop at self.now.values.now) }
     {
-        let a = self.axes;
-        &self.values[at..at + a]
+        &self.values[at..at + self.axes]
     }
 
     // The peak of variation i; no values past the last variation.
@@ -63,7 +62,7 @@ impl<'s> Peaks<'s> {
         ensures { result.now ≡ slice_index_or (rows self.now.axes self.now.values.now self.now.count) i [] }
     {
         if i >= self.count {
-            return &self.values[0..0];
+            return &[];
         }
         let at = self.place(i);
         self.row(at)

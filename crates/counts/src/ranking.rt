@@ -15,7 +15,7 @@ use crate::table::CountTable;
 // Writes the first items of the classes into the first orders; how many there are.
 fn collect(cells: &mut [CountCell]) -> usize
     ensures count { result ≡ count_below (length cells.old) (listed cells.old) }
-    ensures entries { Entries cells.new result }
+    ensures entries { Entries (length cells.old) cells.new result }
     ensures apart { Apart result (order_at cells.new) }
     ensures rest { KeepsCounts cells.old cells.new }
 {
