@@ -1,43 +1,12 @@
--- Ranks are written, and two places exchanged, cell by cell. Assumes nothing.
-use Rattle.std.proofs.Common.{◌≡◌, ℕ, ◌+◌, ◌<◌, ◌≤◌, ◌≢◌, List, length, get_or, set, sym, refl, ap, ◌∙◌, subst, inl, inr, arith, length-set}
+-- Ranks are written, cell by cell. Assumes nothing.
+use Rattle.std.proofs.Common.{◌≡◌, ℕ, ◌+◌, ◌<◌, ◌≤◌, ◌≢◌, List, length, get_or, set, sym, refl, ap, ◌∙◌, subst, inl, inr, arith}
 use Rattle.std.proofs.lemmas.Bool.{cases_eq}
 use Rattle.counts.specs.declared.cells.CountCell.{CountCell}
 use Rattle.counts.specs.Cells.{blank, first_at, rank_at, order_at}
 use Rattle.counts.specs.Ranking.{KeepsCounts, Joins}
-use Rattle.counts.specs.Heaps.{Apart, flip}
+use Rattle.counts.specs.Heaps.{Apart}
 use Rattle.counts.proofs.Steps.{field_same, field_other, field_kept}
-use Rattle.counts.proofs.Swaps.{counts_more, counts_set, flip_left, flip_right, flip_other}
-
--- ---- two places exchanged
-module _ (cells : List CountCell) (i j : ℕ) (lt : i < j) (within : j < length cells) where
-  abbrev left : CountCell
-  left = record (get_or cells i blank) { order = order_at cells j }
-
-  abbrev half : List CountCell
-  half = set cells i left
-
-  abbrev right : CountCell
-  right = record (get_or half j blank) { order = order_at cells i }
-
-  abbrev both : List CountCell
-  both = set half j right
-
-  half_long : j < length half
-  half_long = simp length-set within
-
-  pub swapped_order : (k : ℕ) → order_at both k ≡ order_at cells (flip i j k)
-  swapped_order k = elim (cases_eq k j) [
-    | inl e ↦
-        let ne : i ≢ j = omega arith in
-        ap (order_at both) e ∙ field_same (λ x. x.order) half j right half_long ∙ ap (order_at cells) (sym (ap (flip i j) e ∙ flip_right i j ne))
-    | inr nj ↦ field_other (λ x. x.order) half j right k nj ∙ elim (cases_eq k i) [
-      | inl e ↦ ap (order_at half) e ∙ field_same (λ x. x.order) cells i left (omega arith) ∙ ap (order_at cells) (sym (ap (flip i j) e ∙ flip_left i j))
-      | inr ni ↦ field_other (λ x. x.order) cells i left k ni ∙ ap (order_at cells) (sym (flip_other i j k ni nj))
-    ]
-  ]
-
-  pub swapped_rest : KeepsCounts cells both
-  swapped_rest = counts_more cells half both (counts_set i cells left (omega arith) refl refl) (counts_set j half right half_long refl refl)
+use Rattle.counts.proofs.Swaps.{counts_more, counts_set}
 
 -- ---- the ranks of first items
 pub record Marked (r : ℕ) (old cells : List CountCell) : Type 0 where

@@ -3,11 +3,8 @@ use Rattle.counts.specs.declared.cells.CountCell.{CountCell}
 use Rattle.counts.specs.Links.{linked, no_link}
 use Rattle.counts.specs.Cells.{blank}
 use Rattle.counts.proofs.Fronts.{joined_front, ranks_joined}
-use Rattle.counts.proofs.Steps.{field_same, field_other, leaves_same, leaves_more, leaves_set}
+use Rattle.counts.proofs.Steps.{field_same, field_other, leaves_more, leaves_set}
 use Rattle.counts.proofs.filling.reset.Goals as goal
-
-pub loop-cell-init : goal.loop-cell-init
-loop-cell-init c = ((λ k l. absurd (let z : ⊥ = omega arith in z)), leaves_same _ _)
 
 pub loop-cell-preserved : goal.loop-cell-preserved
 loop-cell-preserved c =

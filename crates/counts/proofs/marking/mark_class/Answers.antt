@@ -4,11 +4,8 @@ use Rattle.counts.specs.declared.cells.CountCell.{CountCell}
 use Rattle.counts.specs.Cells.{blank}
 use Rattle.counts.specs.Marking.{led_by}
 use Rattle.counts.proofs.Fronts.{joined_front, unmarked_joined}
-use Rattle.counts.proofs.Led.{marking_none, marking_more}
+use Rattle.counts.proofs.Led.{marking_more}
 use Rattle.counts.proofs.marking.mark_class.Goals as goal
-
-pub loop-cell-init : goal.loop-cell-init
-loop-cell-init c = marking_none _ _ _
 
 pub loop-cell-preserved : goal.loop-cell-preserved
 loop-cell-preserved c =

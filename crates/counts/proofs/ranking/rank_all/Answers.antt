@@ -9,17 +9,15 @@ use Rattle.counts.proofs.Swaps.{counts_more, entries_same}
 use Rattle.counts.proofs.Ranks.{all_classes, standing}
 use Rattle.counts.proofs.ranking.rank_all.Goals as goal
 
-pub mark-requires : goal.mark-requires
-mark-requires g c =
+pub mark-requires-clause-inside : goal.mark-requires-clause-inside
+mark-requires-clause-inside g c =
     let a = c.collect-k.ensures in
     let b = c.sort.ensures in
     let k = c.collect-k.result in
-    let sorted = entries_same _ k k c.collect-k.new.cells c.sort.new.cells (omega arith) a.entries b.moved b.rest in
-    record {
-      few = omega (arith, sorted.few, sorted.each);
-      inside = λ r l. (sorted.heads r l).inside;
-      apart = b.moved.apart k (omega arith) a.apart;
-    }
+    λ r l. ((entries_same _ k k c.collect-k.new.cells c.sort.new.cells (omega arith) a.entries b.moved b.rest).heads r l).inside
+
+pub mark-requires-clause-apart : goal.mark-requires-clause-apart
+mark-requires-clause-apart g c = c.sort.ensures.moved.apart c.collect-k.result (omega arith) c.collect-k.ensures.apart
 
 pub returns : goal.returns
 returns g c =
