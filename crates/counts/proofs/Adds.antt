@@ -124,15 +124,6 @@ module _ {alike : ℕ → ℕ → Bool} {code : ℕ → ℕ} {n : ℕ} (s : Same
         ];
       }
 
-  pub state_none : (cells : List CountCell) → n ≤ length cells → ((k : ℕ) → k < n → head_at cells k ≡ None) → State alike code n 0 cells
-  state_none cells long empty = record {
-    long = long;
-    firsts = λ k l. absurd (let z : ⊥ = omega arith in z);
-    counts = λ k l. absurd (let z : ⊥ = omega arith in z);
-    heads = λ b l. subst (Link alike code n b 0) (sym (empty b l)) (λ g lg. absurd (let z : ⊥ = omega arith in z));
-    nexts = λ j l own. absurd (let z : ⊥ = omega arith in z);
-  }
-
   pub state_all : (cells : List CountCell) (m : ℕ) → m ≡ n → State alike code n m cells → Filled alike n cells
   state_all cells m end u =
       let t : State alike code n n cells = subst (λ (x : ℕ). State alike code n x cells) end u in

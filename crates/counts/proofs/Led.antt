@@ -51,16 +51,10 @@ repeated_first n cells e =
 abbrev with_marked : CountCell → Bool → CountCell
 with_marked c b = record c { marked = b }
 
-pub unmarked_same : (n : ℕ) (cells : List CountCell) → LeavesUnmarked n cells cells
-unmarked_same n cells = record { long = refl; beyond = λ k l. refl; rest = λ k. refl }
-
 -- the first i cells are marked or not
 pub record Marking (n i : ℕ) (class : Option Class) (old cells : List CountCell) : Type 0 where
   pub marks : (k : ℕ) → k < i → marked_at cells k ≡ led_by class (first_at old k)
   pub rest : LeavesUnmarked n old cells
-
-pub marking_none : (n : ℕ) (class : Option Class) (cells : List CountCell) → Marking n 0 class cells cells
-marking_none n class cells = record { marks = λ k l. absurd (let z : ⊥ = omega arith in z); rest = unmarked_same n cells }
 
 module _ (n i : ℕ) (class : Option Class) (old cells : List CountCell) (m : Bool) (l : i < n) (long : n ≤ length old) (w : Marking n i class old cells) (is : m ≡ led_by class (first_at cells i)) where
   abbrev cell : CountCell

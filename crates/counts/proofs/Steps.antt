@@ -21,9 +21,6 @@ module _ {V : Type 0} (field : CountCell → V) (cells : List CountCell) (i : �
   field_kept l e k = elim (cases_eq k i) [ inl q ↦ rw q (field_same l ∙ e) | inr ne ↦ field_other k ne ]
 
 -- ---- what neither touches ranks nor the cells from n on
-pub leaves_same : (n : ℕ) (cells : List CountCell) → LeavesRanks n cells cells
-leaves_same n cells = record { long = refl; beyond = λ k l. refl; rank = λ k. refl; order = λ k. refl }
-
 pub leaves_more : (n : ℕ) (a b c : List CountCell) → LeavesRanks n a b → LeavesRanks n b c → LeavesRanks n a c
 leaves_more n a b c p q = record {
   long = q.long ∙ p.long;
