@@ -2,7 +2,6 @@ pub mod Classes
 pub mod Steps
 pub mod Walks
 pub mod Adds
-pub mod Blanks
 pub mod RowPlaces
 pub mod Standings
 pub mod Swaps
@@ -12,5 +11,5 @@ pub mod Collecting
 pub mod Orders
 pub mod Ranks
 pub mod Marks
-pub mod Parts
 pub mod Led
+pub mod Fronts

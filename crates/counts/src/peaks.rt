@@ -1,15 +1,10 @@
 // The peaks of a set's variations, as items of a count table.
 ghost use Rattle.std.specs.Prelude.{◌≡◌, ◌+◌, ◌*◌, ◌<◌, ◌≤◌, leb, [], length, take, drop, if◌then◌else◌, nat_le, slice_index_or};
 ghost use Rattle.format.specs.Glyphs.{same_peak};
-ghost use Rattle.counts.specs.Rows.{rows, mix, hash_of, peaks_sameness, peaks_agree};
+ghost use Rattle.counts.specs.Rows.{rows, hash_of, peaks_sameness, peaks_agree};
 
+use crate::hash::Hash;
 use crate::items::{Items, Ranked};
-
-// A hash is below this prime.
-const HASH_PRIME: u64 = 4294967291;
-
-// What a hash is multiplied by at each value.
-const HASH_FACTOR: u64 = 1103515245;
 
 // The peaks of `count` variations: each has a row of `axes` values, and the next row begins 3 * axes values further on.
 #[derive(Clone, Copy)]
@@ -18,15 +13,6 @@ pub struct Peaks<'s> {
     axes: usize,
     count: usize,
     ghost within: { 3 * axes * count ≤ length values.now },
-}
-
-// A hash, with one value more mixed in.
-fn mixed(hash: u64, value: i16) -> u64
-    requires { hash < 4294967291 }
-    ensures value { result ≡ mix hash value }
-    ensures fits { result < 4294967291 }
-{
-    (hash + value.cast_unsigned() as u64) * HASH_FACTOR % HASH_PRIME
 }
 
 // Whether `len` values are enough for `count` variations.
@@ -68,8 +54,7 @@ impl<'s> Peaks<'s> {
         requires { at + self.now.axes ≤ length self.now.values.now }
         ensures { result.now ≡ take self.now.axes (drop at self.now.values.now) }
     {
-        let a = self.axes;
-        &self.values[at..at + a]
+        &self.values[at..at + self.axes]
     }
 
     // The peak of variation i; no values past the last variation.
@@ -77,7 +62,7 @@ impl<'s> Peaks<'s> {
         ensures { result.now ≡ slice_index_or (rows self.now.axes self.now.values.now self.now.count) i [] }
     {
         if i >= self.count {
-            return &self.values[0..0];
+            return &[];
         }
         let at = self.place(i);
         self.row(at)
@@ -104,11 +89,11 @@ impl<'s> Items for Peaks<'s> {
     }
 
     fn hash(&self, i: usize) -> u32 {
-        let mut hash = 0;
+        let mut hash = Hash::new();
         for value in self.peak(i) {
-            hash = mixed(hash, *value);
+            hash = hash.mix(value.cast_unsigned());
         }
-        hash as u32
+        hash.value()
     }
 }
 
