@@ -27,10 +27,10 @@ unfoldable pub data_tests : ℕ → List Variation → ℕ → List Condition �
 data_tests g vs j others = data_conditions (shared_points (point_sets vs)) g j (drop j vs) ++ others
 
 -- the size of all data where 12 applies to none, and else the first variation to which it does
-abbrev pub DataTold : List Variation → Result ℕ ℕ → Type 0
+abbrev pub DataTold : List Variation → Result ℕ StoreFault → Type 0
 DataTold vs (Ok k) = ((g : ℕ) (cs : List Condition) → first_of (data_tests g vs 0 cs) ≡ first_of cs) × (k ≡ length (all_data vs)) × (k ≤ 65535 * 4095)
-DataTold vs (Err j) = (g : ℕ) (cs : List Condition) → first_of (data_tests g vs 0 cs) ≡ some (declined 12 (some g) (some j) none)
+DataTold vs (Err f) = (g : ℕ) (cs : List Condition) → first_of (data_tests g vs 0 cs) ≡ some (store_declined g f)
 
 -- this is the answer to the size of all data
-pub record DataSized (vs : List Variation) (r : Result ℕ ℕ) : Type 0 where
+pub record DataSized (vs : List Variation) (r : Result ℕ StoreFault) : Type 0 where
   pub told : DataTold vs r

@@ -7,6 +7,7 @@ ghost use Rattle.stores.specs.Parts.{flag_of, first_words, all_headers, all_data
 use crate::size::headers_size;
 use crate::variations::TupleVariations;
 use write::sink::{Sink, SinkError};
+use write::words::word;
 
 // The flag in the word that counts the variations: some of them share their points.
 const SHARED_POINT_NUMBERS: usize = 0x8000;
@@ -29,20 +30,16 @@ fn first_words<T: TupleVariations>(store: &T) -> [u8; 4]
 {
     let count = shared_flag(store) + store.count();
     let offset = 4 + headers_size(store);
-    [
-        (count / 256 % 256) as u8,
-        (count % 256) as u8,
-        (offset / 256 % 256) as u8,
-        (offset % 256) as u8,
-    ]
+    let [a, b] = word(count);
+    let [c, d] = word(offset);
+    [a, b, c, d]
 }
 
 // Hands over the headers, variation by variation.
 fn feed_headers<T: TupleVariations, S: Sink>(store: &T, sink: &mut S) -> Result<(), SinkError>
     ensures { Fed S.step (all_headers (T.peaks store.now) (T.variations store.now)) (S.stands sink.old) (S.stands sink.new) result }
 {
-    let count = store.count();
-    for j in 0..count {
+    for j in 0..store.count() {
         store.feed_header(j, sink)?;
     }
     Ok(())
@@ -52,8 +49,7 @@ fn feed_headers<T: TupleVariations, S: Sink>(store: &T, sink: &mut S) -> Result<
 fn feed_all_data<T: TupleVariations, S: Sink>(store: &T, sink: &mut S) -> Result<(), SinkError>
     ensures { Fed S.step (all_data (T.variations store.now)) (S.stands sink.old) (S.stands sink.new) result }
 {
-    let count = store.count();
-    for j in 0..count {
+    for j in 0..store.count() {
         store.feed_data(j, sink)?;
     }
     Ok(())
@@ -66,8 +62,7 @@ pub fn feed_store<T: TupleVariations, S: Sink>(store: &T, sink: &mut S) -> Resul
     if store.count() == 0 {
         return Ok(());
     }
-    let words = first_words(store);
-    sink.take(&words)?;
+    sink.take(&first_words(store))?;
     feed_headers(store, sink)?;
     store.feed_shared(sink)?;
     feed_all_data(store, sink)

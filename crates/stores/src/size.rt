@@ -8,6 +8,7 @@ ghost use Rattle.stores.specs.Parts.{all_headers, all_data};
 ghost use Rattle.stores.specs.Sizes.{StoreSized, DataSized};
 
 use crate::variations::TupleVariations;
+use thiserror::Error;
 
 // A header tells the size of its data in a word, and the store tells in a word where its headers end.
 const MAX_DATA_SIZE: usize = 65535;
@@ -15,9 +16,11 @@ const MAX_DATA_SIZE: usize = 65535;
 const MAX_DATA_OFFSET: usize = 65535;
 
 // Which part is longer than its field can say: the data of a variation, or the headers.
-#[derive(Clone, Copy, PartialEq, Eq, Debug)]
+#[derive(Clone, Copy, PartialEq, Eq, Debug, Error)]
 pub enum StoreFault {
+    #[error("the data of variation {0} is longer than its size can say")]
     Data(u16),
+    #[error("the headers are longer than their end can say")]
     Headers,
 }
 
@@ -26,24 +29,22 @@ pub(crate) fn headers_size<T: TupleVariations>(store: &T) -> usize
     ensures size { result ≡ length (all_headers (T.peaks store.now) (T.variations store.now)) }
     ensures most { result ≤ 2 ^ 32 }
 {
-    let count = store.count();
     let mut size = 0;
-    for j in 0..count {
+    for j in 0..store.count() {
         size += store.header_size(j);
     }
     size
 }
 
 // The number of bytes of all data, or the first variation with too many of them.
-fn all_data_size<T: TupleVariations>(store: &T) -> Result<usize, u16>
+fn all_data_size<T: TupleVariations>(store: &T) -> Result<usize, StoreFault>
     ensures { DataSized (T.variations store.now) result }
 {
-    let count = store.count();
     let mut size = 0;
-    for j in 0..count {
+    for j in 0..store.count() {
         let n = store.data_size(j);
         if n > MAX_DATA_SIZE {
-            return Err(j as u16);
+            return Err(StoreFault::Data(j as u16));
         }
         size += n;
     }
@@ -55,10 +56,7 @@ fn all_data_size<T: TupleVariations>(store: &T) -> Result<usize, u16>
 pub fn store_size<T: TupleVariations>(store: &T) -> Result<usize, StoreFault>
     ensures { StoreSized (T.peaks store.now) (T.variations store.now) result }
 {
-    let data = match all_data_size(store) {
-        Ok(size) => size,
-        Err(j) => return Err(StoreFault::Data(j)),
-    };
+    let data = all_data_size(store)?;
     let offset = 4 + headers_size(store);
     if offset > MAX_DATA_OFFSET {
         return Err(StoreFault::Headers);
@@ -66,8 +64,7 @@ pub fn store_size<T: TupleVariations>(store: &T) -> Result<usize, StoreFault>
     if store.count() == 0 {
         return Ok(0);
     }
-    let shared = store.shared_size();
-    Ok(offset + shared + data)
+    Ok(offset + store.shared_size() + data)
 }
 
 // The size of a store that was found to fit; 0 of any other.
@@ -76,10 +73,7 @@ pub fn known_size<T: TupleVariations>(store: &T) -> usize
     ensures refused { (g : ℕ) (d : Declined) → first_of (size_conditions (T.peaks store.now) g (T.variations store.now)) ≡ some d → result ≡ 0 }
     ensures most { result ≤ 2 ^ 29 }
 {
-    match store_size(store) {
-        Ok(size) => size,
-        Err(_) => 0,
-    }
+    store_size(store).unwrap_or(0)
 }
 
 // The number of bytes of all data, whether or not each fits.
@@ -87,9 +81,8 @@ fn data_total<T: TupleVariations>(store: &T) -> usize
     ensures size { result ≡ length (all_data (T.variations store.now)) }
     ensures most { result ≤ 2 ^ 32 }
 {
-    let count = store.count();
     let mut size = 0;
-    for j in 0..count {
+    for j in 0..store.count() {
         size += store.data_size(j);
     }
     size

@@ -2,5 +2,4 @@ pub mod Choosing
 pub mod Words
 pub mod Regions
 pub mod Headers
-pub mod Pieces
 pub mod Tying

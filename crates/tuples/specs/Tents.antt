@@ -1,23 +1,11 @@
--- The tents of a variation: one as the program holds it, and all as three lists over the axes.
-use Rattle.std.specs.Prelude.{Bool, not, List, [], ◌∷◌, ℤ, Some, None, Option}
-use Rattle.std.proofs.Math.Option.{none, some}
-use Rattle.format.specs.Account.{Given}
-use Rattle.format.specs.Account.{Tent as AxisTent}
+-- All tents of a variation, as three lists over the axes.
+use Rattle.std.specs.Prelude.{Bool, not, List, [], ◌∷◌, ℤ}
+use Rattle.format.specs.Account.{Tent}
 use Rattle.format.specs.Bytes.{all}
 use Rattle.format.specs.Glyphs.{bounds_implied}
-use Rattle.tuples.specs.declared.tent.Tent.{Tent}
-
--- a tent of the program as the definitions of the table have it
-abbrev pub tent_of : Tent → AxisTent
-tent_of t = record { peak = t.peak; start = t.min; end = t.max }
-
--- a peak as it is handed in, with or without bounds
-abbrev pub given_of : ℤ → Option (ℤ × ℤ) → Given
-given_of p None = record { peak = p; bounds = none }
-given_of p (Some b) = record { peak = p; bounds = some b }
 
 -- the tents of the axes that have a peak, a start and an end
-abbrev pub tents_from : List ℤ → List ℤ → List ℤ → List AxisTent
+abbrev pub tents_from : List ℤ → List ℤ → List ℤ → List Tent
 tents_from [] ss es = []
 tents_from (p ∷ ps) [] es = []
 tents_from (p ∷ ps) (s ∷ ss) [] = []

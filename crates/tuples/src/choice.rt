@@ -7,6 +7,8 @@ ghost use Rattle.tuples.specs.Choice.{kept_deltas, StoredAs};
 use variations::delta::{Coordinate, GlyphDelta};
 use variations::deltas::PackedDeltas;
 use variations::points::{PackedPointNumbers, required_count};
+use write::piece::FontWrite;
+use write::sink::{Sink, SinkError};
 
 // Whether all points are stored, the size of the packed points, and that of the packed coordinates.
 #[derive(Clone, Copy)]
@@ -16,22 +18,46 @@ pub struct StoredPoints {
     pub values: usize,
 }
 
-// The number of bytes of both coordinates, of all deltas or of the required ones.
-pub fn values_size(deltas: &[GlyphDelta], all: bool) -> usize
-    ensures size { result ≡ length (coordinates (kept_deltas all (deltas_of deltas.now))) }
-    ensures most { result ≤ 6 * length deltas.now }
-{
-    let xs = PackedDeltas {
-        deltas,
-        coordinate: Coordinate::X,
-        all,
-    };
-    let ys = PackedDeltas {
-        deltas,
-        coordinate: Coordinate::Y,
-        all,
-    };
-    xs.compute_size() + ys.compute_size()
+// Both coordinates of a variation's deltas, the x before the y: of all deltas, or of the required ones.
+#[derive(Clone, Copy)]
+pub struct Coordinates<'a> {
+    pub deltas: &'a [GlyphDelta],
+    pub all: bool,
+}
+
+impl<'a> Coordinates<'a> {
+    fn packed(&self, coordinate: Coordinate) -> PackedDeltas<'a>
+        ensures { result ≡ record { deltas = self.now.deltas; coordinate = coordinate; all = self.now.all } }
+    {
+        PackedDeltas {
+            deltas: self.deltas,
+            coordinate,
+            all: self.all,
+        }
+    }
+
+    // The number of bytes of both.
+    pub fn compute_size(&self) -> usize
+        ensures size { result ≡ length (coordinates (kept_deltas self.now.all (deltas_of self.now.deltas.now))) }
+        ensures most { result ≤ 6 * length self.now.deltas.now }
+    {
+        let xs = self.packed(Coordinate::X);
+        let ys = self.packed(Coordinate::Y);
+        xs.compute_size() + ys.compute_size()
+    }
+}
+
+impl<'a> FontWrite for Coordinates<'a> {
+    ghost bytes = { λ c. coordinates (kept_deltas c.all (deltas_of c.deltas.now)) };
+
+    fn size(&self) -> usize {
+        self.compute_size()
+    }
+
+    fn feed<S: Sink>(&self, sink: &mut S) -> Result<(), SinkError> {
+        self.packed(Coordinate::X).feed(sink)?;
+        self.packed(Coordinate::Y).feed(sink)
+    }
 }
 
 // What a variation with these deltas stores. All points have no list of points, only one byte that says so.
@@ -39,20 +65,17 @@ pub fn stored_points(deltas: &[GlyphDelta]) -> StoredPoints
     ensures { StoredAs (deltas_of deltas.now) result }
 {
     let required = required_count(deltas);
-    let whole = values_size(deltas, true);
+    let whole = Coordinates { deltas, all: true }.compute_size();
     let every = StoredPoints {
         all: true,
         points: 1,
         values: whole,
     };
-    if required == 0 {
-        return every;
-    }
-    if required == deltas.len() {
+    if required == 0 || required == deltas.len() {
         return every;
     }
     let points = PackedPointNumbers::Required(deltas).compute_size();
-    let values = values_size(deltas, false);
+    let values = Coordinates { deltas, all: false }.compute_size();
     if 1 + whole <= points + values {
         return every;
     }

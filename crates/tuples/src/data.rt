@@ -1,14 +1,12 @@
 // A variation's data: its points unless they are shared, then the x and the y of its deltas.
-ghost use Rattle.std.specs.Prelude.{◌≡◌, ◌+◌, ◌*◌, ◌≤◌, length};
-ghost use Rattle.write.specs.Sinks.{Fed};
+ghost use Rattle.std.specs.Prelude.{◌≡◌, ◌+◌, ◌*◌, ◌≤◌, length, IfSome};
 ghost use Rattle.variations.specs.Deltas.{deltas_of};
 ghost use Rattle.variations.specs.PointSets.{points_of, deltas_in};
 ghost use Rattle.tuples.specs.Choice.{kept_points};
 ghost use Rattle.tuples.specs.Data.{points_part, data_of};
 
-use crate::choice::values_size;
-use variations::delta::{Coordinate, GlyphDelta};
-use variations::deltas::PackedDeltas;
+use crate::choice::Coordinates;
+use variations::delta::GlyphDelta;
 use variations::points::PackedPointNumbers;
 use write::piece::FontWrite;
 use write::sink::{Sink, SinkError};
@@ -25,32 +23,6 @@ pub fn point_numbers<'a>(deltas: &'a [GlyphDelta], all: bool) -> PackedPointNumb
     }
 }
 
-// The number of bytes of the points, none where they are shared.
-fn points_size(deltas: &[GlyphDelta], all: bool, shared: bool) -> usize
-    ensures size { result ≡ length (points_part shared all (deltas_of deltas.now)) }
-    ensures most { result ≤ 3 * length deltas.now + 2 }
-{
-    if shared {
-        return 0;
-    }
-    point_numbers(deltas, all).compute_size()
-}
-
-// Hands over the points, unless they are shared.
-fn feed_points<S: Sink>(
-    deltas: &[GlyphDelta],
-    all: bool,
-    shared: bool,
-    sink: &mut S,
-) -> Result<(), SinkError>
-    ensures { Fed S.step (points_part shared all (deltas_of deltas.now)) (S.stands sink.old) (S.stands sink.new) result }
-{
-    if shared {
-        return Ok(());
-    }
-    point_numbers(deltas, all).feed(sink)
-}
-
 // The data of a variation that stores all points or the required ones, with points of its own or the shared ones.
 #[derive(Clone, Copy)]
 pub struct VariationData<'a> {
@@ -59,26 +31,49 @@ pub struct VariationData<'a> {
     pub shared: bool,
 }
 
+impl<'a> VariationData<'a> {
+    // The points, unless they are the shared ones.
+    fn own_points(&self) -> Option<PackedPointNumbers<'a>>
+        ensures bytes { ⟦<Option<PackedPointNumbers<'a>> as FontWrite>⟧.bytes result ≡ points_part self.now.shared self.now.all (deltas_of self.now.deltas.now) }
+        ensures most { IfSome result (λ p. deltas_in p ≤ length self.now.deltas.now) }
+    {
+        if self.shared {
+            None
+        } else {
+            Some(point_numbers(self.deltas, self.all))
+        }
+    }
+
+    // The number of bytes of these points.
+    fn points_size(&self) -> usize
+        ensures size { result ≡ length (points_part self.now.shared self.now.all (deltas_of self.now.deltas.now)) }
+        ensures most { result ≤ 3 * length self.now.deltas.now + 2 }
+    {
+        match self.own_points() {
+            None => 0,
+            Some(points) => points.compute_size(),
+        }
+    }
+
+    fn coordinates(&self) -> Coordinates<'a>
+        ensures { result ≡ record { deltas = self.now.deltas; all = self.now.all } }
+    {
+        Coordinates {
+            deltas: self.deltas,
+            all: self.all,
+        }
+    }
+}
+
 impl<'a> FontWrite for VariationData<'a> {
     ghost bytes = { λ v. data_of v.shared v.all (deltas_of v.deltas.now) };
 
     fn size(&self) -> usize {
-        points_size(self.deltas, self.all, self.shared) + values_size(self.deltas, self.all)
+        self.points_size() + self.coordinates().compute_size()
     }
 
     fn feed<S: Sink>(&self, sink: &mut S) -> Result<(), SinkError> {
-        feed_points(self.deltas, self.all, self.shared, sink)?;
-        let xs = PackedDeltas {
-            deltas: self.deltas,
-            coordinate: Coordinate::X,
-            all: self.all,
-        };
-        xs.feed(sink)?;
-        let ys = PackedDeltas {
-            deltas: self.deltas,
-            coordinate: Coordinate::Y,
-            all: self.all,
-        };
-        ys.feed(sink)
+        self.own_points().feed(sink)?;
+        self.coordinates().feed(sink)
     }
 }

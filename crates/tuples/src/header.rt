@@ -1,14 +1,15 @@
 // A variation's header: the size of its data, the tuple index, and the tuples that are stored.
-ghost use Rattle.std.specs.Prelude.{◌≡◌, ◌+◌, ◌^◌, ◌<◌, [], length, if◌then◌else◌};
-ghost use Rattle.format.specs.Bytes.{word};
+ghost use Rattle.std.specs.Prelude.{◌≡◌, ◌+◌, ◌*◌, ◌^◌, ◌<◌, ◌≤◌, [], ◌++◌, length, if◌then◌else◌};
+ghost use Rattle.format.specs.Bytes.{word, signed_words};
 ghost use Rattle.format.specs.Glyphs.{index_part, index_word};
 ghost use Rattle.tuples.specs.Tents.{some_region};
 ghost use Rattle.tuples.specs.Headers.{index_of, header_of, third};
 
-use crate::tent::Tent;
 use crate::tuple::Tuple;
+use tents::tent::{Bounds, Tent};
 use write::piece::FontWrite;
 use write::sink::{Sink, SinkError};
+use write::words::word;
 
 // The flags of a tuple index: the peak is embedded, bounds are stored, the points are the variation's own. Its other
 // bits are the index of a shared peak.
@@ -61,30 +62,29 @@ impl<'a> TupleVariationHeader<'a> {
             end: &axes[2 * n..3 * n],
         }
     }
+
+    // The size of the data, and the tuple index.
+    fn first_words(&self) -> [u8; 4]
+        ensures { result ≡ word self.now.variation_data_size ++ word (index_word (index_of self.now.index) self.now.region self.now.shared) }
+    {
+        let [a, b] = word(self.variation_data_size);
+        let [c, d] = word(tuple_index(self.index, self.region, self.shared));
+        [a, b, c, d]
+    }
 }
 
-// A number as a word, the most significant byte first.
-fn word_bytes(n: usize) -> [u8; 2]
-    ensures { result ≡ word n }
+// A flag, or no bit.
+fn flag_if(set: bool, flag: usize) -> usize
+    ensures { result ≡ (if set then flag else 0) }
 {
-    [(n / 256 % 256) as u8, (n % 256) as u8]
-}
-
-// One of two numbers.
-fn select(first: bool, one: usize, other: usize) -> usize
-    ensures { result ≡ (if first then one else other) }
-{
-    if first { one } else { other }
+    if set { flag } else { 0 }
 }
 
 // Where the peak is: the index of a shared one, or the flag of one that is embedded.
 fn peak_bits(index: Option<u16>) -> usize
     ensures { result ≡ index_part (index_of index) }
 {
-    match index {
-        None => EMBEDDED_PEAK_TUPLE,
-        Some(i) => i as usize,
-    }
+    index.map_or(EMBEDDED_PEAK_TUPLE, |i| usize::from(i))
 }
 
 // The index of the peak with the flags.
@@ -92,33 +92,26 @@ fn tuple_index(index: Option<u16>, region: bool, shared: bool) -> usize
     ensures { result ≡ index_word (index_of index) region shared }
 {
     peak_bits(index)
-        + select(region, INTERMEDIATE_REGION, 0)
-        + select(shared, 0, PRIVATE_POINT_NUMBERS)
+        + flag_if(region, INTERMEDIATE_REGION)
+        + flag_if(!shared, PRIVATE_POINT_NUMBERS)
 }
 
-// A tuple that is stored, or one of no axes.
-fn tuple_if<'a>(stored: bool, values: &'a [i16]) -> Tuple<'a>
-    ensures { result.values.now ≡ (if stored then values.now else []) }
+// A tuple, if it is stored.
+fn tuple_if<'a>(stored: bool, values: &'a [i16]) -> Option<Tuple<'a>>
+    ensures bytes { ⟦<Option<Tuple<'a>> as FontWrite>⟧.bytes result ≡ (if stored then signed_words values.now else []) }
+    ensures most { length (⟦<Option<Tuple<'a>> as FontWrite>⟧.bytes result) ≤ 2 * length values.now }
 {
-    if stored {
-        Tuple { values }
-    } else {
-        Tuple {
-            values: &values[0..0],
-        }
-    }
+    stored.then_some(Tuple { values })
 }
 
 // Whether bounds have to be stored: some axis has others than its peak implies.
 pub fn stores_region(peak: &[i16], start: &[i16], end: &[i16]) -> bool
     ensures { result ≡ some_region peak.now start.now end.now }
 {
-    let n = peak.len().min(start.len()).min(end.len());
-    for i in 0..n {
+    for (&peak, (&min, &max)) in peak.iter().zip(start.iter().zip(end)) {
         let tent = Tent {
-            peak: peak[i],
-            min: start[i],
-            max: end[i],
+            peak,
+            bounds: Some(Bounds { min, max }),
         };
         if tent.requires_intermediate() {
             return true;
@@ -131,15 +124,14 @@ impl<'a> FontWrite for TupleVariationHeader<'a> {
     ghost bytes = { λ h. header_of h.variation_data_size h.index h.region h.shared h.peak.now h.start.now h.end.now };
 
     fn size(&self) -> usize {
-        let peak = select(self.index.is_none(), self.peak.len(), 0);
-        let bounds = select(self.region, self.start.len() + self.end.len(), 0);
-        4 + 2 * (peak + bounds)
+        let peak = tuple_if(self.index.is_none(), self.peak).size();
+        let start = tuple_if(self.region, self.start).size();
+        let end = tuple_if(self.region, self.end).size();
+        4 + peak + start + end
     }
 
     fn feed<S: Sink>(&self, sink: &mut S) -> Result<(), SinkError> {
-        let [a, b] = word_bytes(self.variation_data_size);
-        let [c, d] = word_bytes(tuple_index(self.index, self.region, self.shared));
-        sink.take(&[a, b, c, d])?;
+        sink.take(&self.first_words())?;
         let peak = tuple_if(self.index.is_none(), self.peak);
         peak.feed(sink)?;
         let start = tuple_if(self.region, self.start);

@@ -5,5 +5,4 @@ pub mod choice;
 pub mod data;
 pub mod header;
 pub mod laws;
-pub mod tent;
 pub mod tuple;

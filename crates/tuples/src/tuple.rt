@@ -1,12 +1,16 @@
 // One number for each axis, as words.
-ghost use Rattle.std.specs.Prelude.{◌≡◌, ◌*◌, min, length, take};
+ghost use Rattle.std.specs.Prelude.{◌≡◌};
 ghost use Rattle.format.specs.Bytes.{signed_words};
+ghost use Rattle.write.specs.Sinks.{Fed};
 
+use write::batch::Batch;
 use write::piece::FontWrite;
 use write::sink::{Sink, SinkError};
 
-// So many values go to a sink at a time.
-const BATCH: usize = 64;
+// So many values go to a sink at a time, and so many bytes.
+const VALUES: usize = 64;
+
+const BYTES: usize = 128;
 
 // Values of the axes in order, in units of 1/16384.
 #[derive(Clone, Copy)]
@@ -14,18 +18,14 @@ pub struct Tuple<'a> {
     pub values: &'a [i16],
 }
 
-// Puts the words of the first values into the batch; answers how many values those are.
-fn pack(values: &[i16], batch: &mut [u8; 128]) -> usize
-    ensures many { result ≡ min (length values.now) 64 }
-    ensures words { take (2 * result) batch.new ≡ signed_words (take result values.now) }
+// Hands over the words of these values one by one.
+fn feed_values<S: Sink>(values: &[i16], sink: &mut S) -> Result<(), SinkError>
+    ensures { Fed S.step (signed_words values.now) (S.stands sink.old) (S.stands sink.new) result }
 {
-    let n = values.len().min(BATCH);
-    for i in 0..n {
-        let w = values[i].to_be_bytes();
-        batch[2 * i] = w[0];
-        batch[2 * i + 1] = w[1];
+    for v in values {
+        sink.take(&v.to_be_bytes())?;
     }
-    n
+    Ok(())
 }
 
 impl<'a> FontWrite for Tuple<'a> {
@@ -36,12 +36,10 @@ impl<'a> FontWrite for Tuple<'a> {
     }
 
     fn feed<S: Sink>(&self, sink: &mut S) -> Result<(), SinkError> {
-        let mut batch = [0u8; 128];
-        let mut i = 0;
-        while i < self.values.len() {
-            let n = pack(&self.values[i..], &mut batch);
-            sink.take(&batch[0..2 * n])?;
-            i += n;
+        for part in self.values.chunks(VALUES) {
+            let mut batch: Batch<BYTES> = Batch::new();
+            feed_values(part, &mut batch)?;
+            sink.take(batch.taken())?;
         }
         Ok(())
     }

@@ -1,9 +1,19 @@
 -- The laws of `Fed` and of `Part`: bytes handed over part by part.
 use Rattle.std.proofs.Common.{◌≡◌, ℕ, ◌≤◌, List, [], ◌++◌, length, Ok, Err, sym, refl, ap, ◌∙◌, subst, append_assoc, append-nil, arith, length-append}
+use Rattle.std.specs.Result.{IsErrAnd}
+use Rattle.std.proofs.lemmas.Result.{err_from_is_err_and}
 use Rattle.write.specs.declared.sink.SinkError.{SinkError}
 use Rattle.write.specs.declared.sink.SinkError.TheVariants.{Full}
 use Rattle.write.specs.Sinks.{Standing, Step, Reply, Handed, Part, Fed}
 use Rattle.write.proofs.Laws.{handed_none, handed_allowance, handed_both}
+
+-- the same bytes in other words
+pub fed_as : {step : Step} {parts whole : List ℕ} {a b : Standing} {r : Reply} → parts ≡ whole → Fed step parts a b r → Fed step whole a b r
+fed_as {step} {parts} {whole} {a} {b} {r} e f = subst (λ bs. Fed step bs a b r) e f
+
+-- a refusal that a `?` passes on
+pub fed_refused : {step : Step} {bs : List ℕ} {a b : Standing} {e : SinkError} (r : Reply) → IsErrAnd r (λ f. f ≡ e) → Fed step bs a b (Err e) → Fed step bs a b r
+fed_refused {step} {bs} {a} {b} {e} r q f = let k = err_from_is_err_and r q in subst (Fed step bs a b) (sym (k.1 ∙ ap Err k.2)) f
 
 -- one hand-over is a feeding of one part
 pub fed_whole : {step : Step} {bs : List ℕ} {a b : Standing} (r : Reply) → Handed step bs a b r → Fed step bs a b r

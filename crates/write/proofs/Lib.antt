@@ -1,3 +1,4 @@
 pub mod Folds
 pub mod Laws
 pub mod Feeding
+pub mod Batches

@@ -1,4 +1,4 @@
--- The steps of the three sinks: from a state and one byte the next state.
+-- The steps of the sinks: from a state and one byte the next state.
 use Rattle.std.specs.Prelude.{ℕ, ◌+◌, ◌-◌, ◌*◌, ◌%◌, ◌^◌, List, [], ◌∷◌, ◌++◌, slice_index}
 
 -- the state is the bytes taken

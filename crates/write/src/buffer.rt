@@ -1,5 +1,5 @@
 // A sink that keeps its bytes in lent memory.
-ghost use Rattle.std.specs.Prelude.{◌≡◌, ◌-◌, [], ◌∷◌, length, take, drop};
+ghost use Rattle.std.specs.Prelude.{◌≡◌, ◌-◌, ◌≤◌, [], ◌∷◌, length, take, drop};
 ghost use Rattle.write.specs.Steps.{kept};
 
 use crate::sink::{Sink, SinkError};
@@ -9,6 +9,7 @@ use crate::sink::{Sink, SinkError};
 pub struct Buffer<'a> {
     bytes: &'a mut [u8],
     used: usize,
+    ghost within: { used ≤ length bytes.now },
 }
 
 impl<'a> Buffer<'a> {
@@ -25,8 +26,7 @@ impl<'a> Buffer<'a> {
     pub fn taken(&self) -> &[u8]
         ensures { result.now ≡ take self.now.used self.now.bytes.now }
     {
-        let n = self.used.min(self.bytes.len());
-        &self.bytes[0..n]
+        &self.bytes[..self.used]
     }
 }
 
@@ -36,19 +36,17 @@ impl<'a> Sink for Buffer<'a> {
     ghost step = { kept };
 
     fn allowance(&self) -> usize {
-        self.bytes.len().saturating_sub(self.used)
+        self.bytes.len() - self.used
     }
 
     fn take(&mut self, bytes: &[u8]) -> Result<(), SinkError> {
         let n = bytes.len();
-        let at = self.used;
-        if n > self.bytes.len().saturating_sub(at) {
+        if n > self.allowance() {
             return Err(SinkError::Full);
         }
-        if n > 0 {
-            self.bytes[at..at + n].copy_from_slice(bytes);
-            self.used = at + n;
-        }
+        let end = self.used + n;
+        self.bytes[self.used..end].copy_from_slice(bytes);
+        self.used = end;
         Ok(())
     }
 }

@@ -2,12 +2,13 @@
 ghost use Rattle.std.specs.Prelude.{◌≡◌, ◌+◌, ◌-◌, ◌*◌, ◌%◌, ◌^◌, ◌<◌, [], ◌∷◌};
 ghost use Rattle.write.specs.Steps.{summed};
 
+use crate::allowance::Allowance;
 use crate::sink::{Sink, SinkError};
 
 // The phase is the number of bytes taken modulo 4.
 #[derive(Drop)]
 pub struct Checksum {
-    left: usize,
+    left: Allowance,
     sum: u32,
     phase: u8,
     ghost turn: { phase < 4 },
@@ -34,7 +35,7 @@ impl Checksum {
         ensures phase { result.phase ≡ 0 }
     {
         Checksum {
-            left: allowance,
+            left: Allowance::new(allowance),
             sum: 0,
             phase: 0,
         }
@@ -44,8 +45,7 @@ impl Checksum {
     pub fn sum(&self) -> u32
         ensures { result ≡ self.now.sum }
     {
-        let Checksum { sum, .. } = self;
-        *sum
+        self.sum
     }
 }
 
@@ -55,15 +55,11 @@ impl Sink for Checksum {
     ghost step = { summed };
 
     fn allowance(&self) -> usize {
-        self.left
+        self.left.left()
     }
 
     fn take(&mut self, bytes: &[u8]) -> Result<(), SinkError> {
-        let n = bytes.len();
-        if n > self.left {
-            return Err(SinkError::Full);
-        }
-        self.left -= n;
+        self.left.spend(bytes.len())?;
         for b in bytes {
             self.sum = self.sum.wrapping_add(weighted(self.phase, *b));
             self.phase = (self.phase + 1) % 4;

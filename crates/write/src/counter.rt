@@ -2,11 +2,12 @@
 ghost use Rattle.std.specs.Prelude.{◌≡◌, ◌+◌, ◌^◌, ◌<◌, [], ◌∷◌};
 ghost use Rattle.write.specs.Steps.{counted};
 
+use crate::allowance::Allowance;
 use crate::sink::{Sink, SinkError};
 
 #[derive(Drop)]
 pub struct Counter {
-    left: usize,
+    left: Allowance,
     taken: usize,
     ghost fits: { taken + left < 2 ^ 64 },
 }
@@ -18,7 +19,7 @@ impl Counter {
         ensures taken { result.taken ≡ 0 }
     {
         Counter {
-            left: allowance,
+            left: Allowance::new(allowance),
             taken: 0,
         }
     }
@@ -27,8 +28,7 @@ impl Counter {
     pub fn count(&self) -> usize
         ensures { result ≡ self.now.taken }
     {
-        let Counter { taken, .. } = self;
-        *taken
+        self.taken
     }
 }
 
@@ -37,16 +37,15 @@ impl Sink for Counter {
 
     ghost step = { counted };
 
+    #[inline]
     fn allowance(&self) -> usize {
-        self.left
+        self.left.left()
     }
 
+    #[inline]
     fn take(&mut self, bytes: &[u8]) -> Result<(), SinkError> {
         let n = bytes.len();
-        if n > self.left {
-            return Err(SinkError::Full);
-        }
-        self.left -= n;
+        self.left.spend(n)?;
         self.taken += n;
         Ok(())
     }

@@ -1,5 +1,5 @@
 // Pieces of a table: what means bytes, and can be handed to a sink.
-ghost use Rattle.std.specs.Prelude.{◌≡◌, ℕ, List, length};
+ghost use Rattle.std.specs.Prelude.{◌≡◌, ℕ, List, [], length, Some, None};
 ghost use Rattle.write.specs.Sinks.{Handed, Fed};
 
 use crate::sink::{Sink, SinkError, ready};
@@ -23,5 +23,24 @@ pub trait FontWrite {
     {
         ready(sink, self.size())?;
         self.feed(sink)
+    }
+}
+
+// A piece that may be missing: no bytes then.
+impl<T: FontWrite> FontWrite for Option<T> {
+    ghost bytes = { elim [ None ↦ [] | Some piece ↦ T.bytes piece ] };
+
+    fn size(&self) -> usize {
+        match self {
+            None => 0,
+            Some(piece) => piece.size(),
+        }
+    }
+
+    fn feed<S: Sink>(&self, sink: &mut S) -> Result<(), SinkError> {
+        match self {
+            None => Ok(()),
+            Some(piece) => piece.feed(sink),
+        }
     }
 }

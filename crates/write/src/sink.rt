@@ -2,10 +2,12 @@
 ghost use Rattle.std.specs.Prelude.{◌≡◌};
 ghost use Rattle.write.specs.Sinks.{Standing, Step, Handed, Ready};
 
+use thiserror::Error;
+
 // Why a sink took nothing.
-#[derive(Clone, Copy, PartialEq, Eq, Debug)]
+#[derive(Clone, Copy, PartialEq, Eq, Debug, Error)]
 pub enum SinkError {
-    // More bytes than the allowance.
+    #[error("more bytes than the sink will take")]
     Full,
 }
 

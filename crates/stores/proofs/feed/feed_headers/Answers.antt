@@ -1,18 +1,16 @@
 use Rattle.std.proofs.Common.{◌+◌, arith}
-use Rattle.std.proofs.lemmas.Result.{err_from_is_err_and}
-use Rattle.write.proofs.Feeding.{part_more, part_stop, part_done}
+use Rattle.write.proofs.Feeding.{fed_refused, part_more, part_stop, part_done}
 use Rattle.stores.specs.Parts.{variation_at, header_in}
 use Rattle.stores.proofs.Joining.{left_at, left_more, left_none}
 use Rattle.stores.proofs.feed.feed_headers.Goals as goal
 
 pub returns-in_err-feed_header : goal.returns-in_err-feed_header
 returns-in_err-feed_header g c =
-    let q = err_from_is_err_and c.from_residual.result c.from_residual.ensures.1 in
     let t = g.T.TupleVariations in
     let ps = t.peaks c.args.store.now in
     let vs = t.variations c.args.store.now in
     let j = c.loop-j.j in
-    rw (q.1, q.2) (part_stop (header_in ps vs (variation_at vs j)) (left_at (header_in ps vs) vs (j + 1)) (left_more (header_in ps vs) vs j (omega arith)) c.loop-j.invariant _ c.in_err-feed_header.ensures)
+    fed_refused c.from_residual.result c.from_residual.ensures.1 (part_stop (header_in ps vs (variation_at vs j)) (left_at (header_in ps vs) vs (j + 1)) (left_more (header_in ps vs) vs j (omega arith)) c.loop-j.invariant _ c.in_err-feed_header.ensures)
 
 pub loop-j-preserved : goal.loop-j-preserved
 loop-j-preserved g c =

@@ -1,14 +1,9 @@
 use Rattle.std.proofs.Common.{◌≡◌, ℕ, List, Ok, Err, sym, subst, arith}
-use Rattle.std.proofs.lemmas.Result.{err_from_is_err_and}
 use Rattle.write.specs.Sinks.{Standing, Step, Reply, Fed}
 use Rattle.write.proofs.Laws.{handed_none}
-use Rattle.write.proofs.Feeding.{fed_whole, fed_then, fed_stop}
+use Rattle.write.proofs.Feeding.{fed_refused, fed_as, fed_whole, fed_then, fed_stop}
 use Rattle.stores.proofs.Parts.{store_parts, no_bytes}
 use Rattle.stores.proofs.feed.feed_store.Goals as goal
-
--- the bytes handed over are those of the glyph
-fed_as : {step : Step} {parts whole : List ℕ} {a b : Standing} {r : Reply} → parts ≡ whole → Fed step parts a b r → Fed step whole a b r
-fed_as {step} {parts} {whole} {a} {b} {r} e f = subst (λ bs. Fed step bs a b r) e f
 
 pub returns-then-count-eq0 : goal.returns-then-count-eq0
 returns-then-count-eq0 g c =
@@ -18,30 +13,27 @@ returns-then-count-eq0 g c =
 
 pub returns-in_err-take : goal.returns-in_err-take
 returns-in_err-take g c =
-    let q = err_from_is_err_and c.from_residual.result c.from_residual.ensures.1 in
     let t = g.T.TupleVariations in
     let store = c.args.store.now in
-    let words = c.first_words-words.ensures in
-    rw (q.1, q.2)
+    let words = c.first_words.ensures in
+    fed_refused c.from_residual.result c.from_residual.ensures.1
     (fed_as (store_parts (t.peaks store) (t.variations store) (omega arith)) (fed_stop _ _ (fed_whole (Err _) (rw words at c.in_err-take.ensures))))
 
 pub returns-in_err-feed_headers : goal.returns-in_err-feed_headers
 returns-in_err-feed_headers g c =
-    let q = err_from_is_err_and c.from_residual-in_err-feed_headers.result c.from_residual-in_err-feed_headers.ensures.1 in
     let t = g.T.TupleVariations in
     let store = c.args.store.now in
-    let words = c.first_words-words.ensures in
-    rw (q.1, q.2)
+    let words = c.first_words.ensures in
+    fed_refused c.from_residual-in_err-feed_headers.result c.from_residual-in_err-feed_headers.ensures.1
     (fed_as (store_parts (t.peaks store) (t.variations store) (omega arith))
     (fed_then (Err _) (rw words at c.in_ok-take.ensures) (fed_stop _ _ c.in_err-feed_headers.ensures)))
 
 pub returns-in_err-feed_shared : goal.returns-in_err-feed_shared
 returns-in_err-feed_shared g c =
-    let q = err_from_is_err_and c.from_residual-in_err-feed_shared.result c.from_residual-in_err-feed_shared.ensures.1 in
     let t = g.T.TupleVariations in
     let store = c.args.store.now in
-    let words = c.first_words-words.ensures in
-    rw (q.1, q.2)
+    let words = c.first_words.ensures in
+    fed_refused c.from_residual-in_err-feed_shared.result c.from_residual-in_err-feed_shared.ensures.1
     (fed_as (store_parts (t.peaks store) (t.variations store) (omega arith))
     (fed_then (Err _) (rw words at c.in_ok-take.ensures)
     (fed_then (Err _) c.in_ok-feed_headers.ensures.outcome (fed_stop _ _ c.in_err-feed_shared.ensures))))
@@ -50,7 +42,7 @@ pub returns : goal.returns
 returns g c =
     let t = g.T.TupleVariations in
     let store = c.args.store.now in
-    let words = c.first_words-words.ensures in
+    let words = c.first_words.ensures in
     let r = c.feed_all_data.result in
     fed_as (store_parts (t.peaks store) (t.variations store) (omega arith))
     (fed_then r (rw words at c.in_ok-take.ensures)

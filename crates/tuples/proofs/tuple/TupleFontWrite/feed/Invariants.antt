@@ -1,13 +1,11 @@
-use Rattle.std.proofs.Common.{◌≡◌, ◌-◌, ◌≤◌, length, drop}
+use Rattle.std.proofs.Common.{◌≡◌}
+use Rattle.std.specs.Slice.Iter.{chunks_rest, chunks_size}
 use Rattle.write.specs.Sinks.{Part}
 use Rattle.format.specs.Bytes.{signed_words}
 use Rattle.tuples.proofs.tuple.TupleFontWrite.feed.Given as goal
 
-abbrev pub invariant-loop-i : goal.invariant-loop-i
-invariant-loop-i g l =
+abbrev pub invariant-loop-part : goal.invariant-loop-part
+invariant-loop-part g l =
     let s = g.S.Sink in
-    let zs = l.self.values.now in
-    (length l.batch ≡ 128) × (l.i ≤ length zs) × Part s.step (signed_words zs) (signed_words (drop l.i zs)) (s.stands l.initial.sink) (s.stands l.sink)
-
-abbrev pub decreases-loop-i : goal.decreases-loop-i
-decreases-loop-i g l = length l.self.values.now - l.i
+    (chunks_size l.part-iterator ≡ 64)
+    × Part s.step (signed_words l.self.values.now) (signed_words (chunks_rest l.part-iterator)) (s.stands l.initial.sink) (s.stands l.sink)

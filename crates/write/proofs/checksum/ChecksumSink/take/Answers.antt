@@ -20,9 +20,10 @@ loop-b-preserved c =
 pub returns : goal.returns
 returns c =
     let bs = c.args.bytes.now in
+    let e = c.in_ok-spend.ensures.spent in
     handed_all
-    (omega arith)
-    c.loop-b.invariant.0
+    (omega (arith, e))
+    (omega (arith, e, c.loop-b.invariant.0))
     (c.loop-b.invariant.1 ∙ ap (fold summed _) (take_all c.loop-b.b-index bs c.loop-b-test.false))
     (sym (drop-nil (length bs)))
     refl

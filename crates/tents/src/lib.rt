@@ -1,0 +1,4 @@
+// Where on one axis a variation applies.
+#![tactic(auto)]
+
+pub mod tent;
