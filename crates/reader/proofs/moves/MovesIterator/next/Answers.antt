@@ -1,10 +1,10 @@
 use Rattle.std.proofs.Common.{◌≡◌, refl, w16, to_z, of_z, rules}
 use Rattle.format.specs.Reader.{moves_of}
 use Rattle.reader.proofs.MoveSteps.{no_x, no_y, one_move}
-use Rattle.reader.proofs.moves.Moves.next.Goals as goal
+use Rattle.reader.proofs.moves.MovesIterator.next.Goals as goal
 
-pub returns-in_err-x : goal.returns-in_err-x
-returns-in_err-x c =
+pub returns-in_err-x-clause-steps : goal.returns-in_err-x-clause-steps
+returns-in_err-x-clause-steps c =
     rw c.from_residual-in_err-x.ensures (
     record {
       moved = λ ms w. no_x ms w.points w.xs w.ys w.in_step (c.in_err-x.ensures.came w.xs w.xs_left);
@@ -12,8 +12,8 @@ returns-in_err-x c =
     }
     )
 
-pub returns-in_err-y : goal.returns-in_err-y
-returns-in_err-y c =
+pub returns-in_err-y-clause-steps : goal.returns-in_err-y-clause-steps
+returns-in_err-y-clause-steps c =
     rw c.from_residual-in_err-y.ensures (
     record {
       moved = λ ms w. no_y ms w.points w.xs w.ys w.in_step (c.in_err-y.ensures.came w.ys w.ys_left);
@@ -21,8 +21,8 @@ returns-in_err-y c =
     }
     )
 
-pub returns : goal.returns
-returns c =
+pub returns-clause-steps : goal.returns-clause-steps
+returns-clause-steps c =
     let ex : to_z w16 (of_z w16 c.in_ok-x.x) ≡ c.in_ok-x.x = search rules in
     let ey : to_z w16 (of_z w16 c.in_ok-y.y) ≡ c.in_ok-y.y = search rules in
     record {

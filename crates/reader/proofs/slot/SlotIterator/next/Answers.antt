@@ -1,23 +1,24 @@
-use Rattle.std.proofs.Common.{◌+◌, Bool, [], take, drop, sym, refl, ◌∙◌, subst, arith}
+use Rattle.std.proofs.Common.{◌+◌, Bool, [], take, drop, Option as Maybe, sym, refl, ◌∙◌, subst, arith}
 use Rattle.format.specs.Reader.{checked, is_private, read_entries, entry_of, header_of}
 use Rattle.slots.proofs.HeadSteps.{not_both, un_one}
 use Rattle.slots.proofs.WalkSteps.{good_entry, moved}
-use Rattle.reader.specs.SlotWalks.{ListOf}
+use Rattle.reader.specs.declared.points.PointList.{PointList}
+use Rattle.reader.specs.SlotWalks.{shared_list, ListOf}
 use Rattle.reader.proofs.SlotWalkSteps.{peaks_next, list_read}
-use Rattle.reader.proofs.slot.Slot.next.Goals as goal
+use Rattle.reader.proofs.slot.SlotIterator.next.Goals as goal
 
-pub returns-in-Err : goal.returns-in-Err
-returns-in-Err c =
+pub returns-in-Err-clause-steps : goal.returns-in-Err-clause-steps
+returns-in-Err-clause-steps c =
     let s = c.args.self.now in
     record {
       walked = λ es w.
-          absurd (not_both (read_entries (checked s.table.bytes.now) w.glyph s.p w.set s.i w.headers (drop s.body s.bytes.now) s.body) _ _
-          (c.in-Err.ensures (checked s.table.bytes.now) w.glyph w.set s.count w.headers w.left w.past w.number (omega arith) w.heads_read) w.entries_read);
+          absurd (not_both (read_entries (checked s.table.bytes.now) w.glyph s.p w.set s.i w.headers (drop s.rest.body s.bytes.now) s.rest.body) _ _
+          (c.in-Err.ensures (checked s.table.bytes.now) w.glyph w.set s.rest.count w.headers w.left w.past w.number (omega arith) w.heads_read) w.entries_read);
       falls = tt;
     }
 
-pub returns-in-Ok : goal.returns-in-Ok
-returns-in-Ok c =
+pub returns-in-Ok-clause-steps : goal.returns-in-Ok-clause-steps
+returns-in-Ok-clause-steps c =
     let s = c.args.self.now in
     let k = checked s.table.bytes.now in
     let y = c.in-Ok.ensures in
@@ -26,15 +27,16 @@ returns-in-Ok c =
       walked = λ es w.
           let g = w.glyph in
           let a = s.table.head.axes in
-          let h = header_of a s.header q.head.size q.head.index y.head.values in
-          let m = good_entry k g s.p w.set s.i s.bytes.now s.header s.body a s.count w.headers w.left w.past (omega arith) w.heads_read s.shared q w.number y in
+          let h = header_of a s.rest.header q.head.size q.head.index y.head.values in
+          let m = good_entry k g s.p w.set s.i s.bytes.now s.rest.header s.rest.body a s.rest.count w.headers w.left w.past (omega arith) w.heads_read s.rest.shared q w.number y in
           let r = y.parts w.set w.number in
           let x = entry_of k h s.p r.set r.xs r.ys in
           let u = un_one x (read_entries k g s.p w.set (s.i + 1) m.0 (drop q.next s.bytes.now) q.next) es w.after w.end (sym m.2 ∙ w.entries_read) in
           let p = peaks_next g s.table.head.peaks s.i w.headers h m.0 m.3 w.peaks_there in
-          let t = moved (take q.end s.bytes.now) c.upto-bytes.result.now s.body s.p w.set (is_private q.head.index) q.parts c.upto-bytes.ensures r in
-          let l = list_read (is_private q.head.index) c.upto-bytes.result.now s.body s.p w.set q.parts s.list c.list_of-list.result t w.set_read
-          (subst (λ (b : Bool). ListOf b c.upto-bytes.result.now s.body s.list c.list_of-list.result) c.is_private.ensures c.list_of-list.ensures) in (
+          let t = moved (take q.end s.bytes.now) c.upto-bytes.result.now s.rest.body s.p w.set (is_private q.head.index) q.parts c.upto-bytes.ensures r in
+          let l = list_read (is_private q.head.index) c.upto-bytes.result.now s.rest.body s.p w.set q.parts (shared_list s) c.list_of-list.result t w.set_read
+          (subst (λ (m : Maybe PointList). ListOf (is_private q.head.index) c.upto-bytes.result.now s.rest.body m c.list_of-list.result) c.shared_list.ensures
+          (subst (λ (b : Bool). ListOf b c.upto-bytes.result.now s.rest.body c.shared_list.result c.list_of-list.result) c.is_private.ensures c.list_of-list.ensures)) in (
             x,
             u.0,
             u.2,
@@ -42,7 +44,7 @@ returns-in-Ok c =
               sound = w.sound;
               slot_end = w.slot_end;
               in_table = w.in_table;
-              header = s.header;
+              header = s.rest.header;
               head = y.head;
               peak_there = p.0;
               set = r.set;
