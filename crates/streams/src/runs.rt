@@ -91,10 +91,12 @@ impl<'a, P: Packing<Kind = K>, K: Copy> RunCursor<'a, P, K> {
         ensures at { result ≡ self.now.at }
         ensures past { (past : ℕ) → ahead P.form self.now ≡ ends past → result ≡ past }
     {
-        self.at
+        let RunCursor { at, .. } = self;
+        *at
     }
 
     // The next value, nothing at the end of the stream, or the stream's fault, again at each call.
+    #[inline(always)]
     pub fn next(&mut self) -> Result<Option<P::Value>, StreamFault>
         ensures { RunStep P.form self.old result self.new }
     {
@@ -123,13 +125,10 @@ impl<'a, P: Packing<Kind = K>, K: Copy> RunCursor<'a, P, K> {
         if self.left <= n as u16 {
             return Err(P::blame(self.at));
         }
-        *self = RunCursor {
-            control: self.at,
-            at: self.at + 1,
-            left: self.left - (n as u16 + 1),
-            state: RunState::Inside(kind, n),
-            ..*self
-        };
+        self.control = self.at;
+        self.at += 1;
+        self.left -= n as u16 + 1;
+        self.state = RunState::Inside(kind, n);
         self.give(kind, n)
     }
 
@@ -141,12 +140,9 @@ impl<'a, P: Packing<Kind = K>, K: Copy> RunCursor<'a, P, K> {
         let Some(u) = self.packing.unpack(kind, self.table, self.at) else {
             return Err(P::blame(self.control));
         };
-        *self = RunCursor {
-            at: u.past,
-            state: run_state(kind, n),
-            packing: u.packing,
-            ..*self
-        };
+        self.at = u.past;
+        self.packing = u.packing;
+        self.state = run_state(kind, n);
         Ok(Some(u.value))
     }
 
