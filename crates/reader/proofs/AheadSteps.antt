@@ -1,10 +1,11 @@
 -- One value after another of a stream that gives these values and ends.
-use Rattle.std.proofs.Common.{◌≡◌, ℕ, List, [], ◌∷◌, drop, Some, None, Ok, Err, Option as Maybe, sym, refl, ap, ◌∙◌, arith}
+use Rattle.std.proofs.Common.{◌≡◌, ℕ, List, [], ◌∷◌, drop, Some, None, Ok, Err, Option as Maybe, Result, sym, refl, ap, ◌∙◌, arith}
 use Rattle.format.specs.Account.{Declined}
 use Rattle.format.specs.Streams.{rest, found}
 use Rattle.streams.specs.declared.fault.StreamFault.{StreamFault}
 use Rattle.streams.specs.Ahead.{Ahead, ends, fails, gives, answer_of, rest_of, give_all, read_ahead}
 use Rattle.slots.proofs.HeadSteps.{un_one}
+use Rattle.std.specs.Result.{result_unwrap_or}
 use Rattle.reader.specs.MoveWalks.{how_many, Falls}
 
 module _ {X : Type 0} where
@@ -35,8 +36,9 @@ module _ {X : Type 0} where
     no_fault (y ∷ xs) f e s = absurd (let q : Err f ≡ Ok (Some y) = s ∙ ap answer_of e in let z : ◌≡◌ {A = ℕ} 0 1 = cc in omega arith)
 
   -- a value that came is ahead no more
-  pub falls : (a a' : Ahead X) (o : Maybe X) → Ok o ≡ answer_of a → a' ≡ rest_of a → Falls o (how_many a) (how_many a')
-  falls a a' None s h = tt
-  falls (ends at) a' (Some x) s h = absurd (let z : ◌≡◌ {A = ℕ} 0 1 = cc in omega arith)
-  falls (fails f) a' (Some x) s h = absurd (let z : ◌≡◌ {A = ℕ} 0 1 = cc in omega arith)
-  falls (gives y a) a' (Some x) s h = let q : how_many a' ≡ how_many a = ap how_many h in omega arith
+  pub falls : (a a' : Ahead X) (r : Result (Maybe X) StreamFault) → r ≡ answer_of a → a' ≡ rest_of a → Falls (result_unwrap_or r None) (how_many a) (how_many a')
+  falls a a' (Err f) s h = tt
+  falls a a' (Ok None) s h = tt
+  falls (ends at) a' (Ok (Some x)) s h = absurd (let z : ◌≡◌ {A = ℕ} 0 1 = cc in omega arith)
+  falls (fails f) a' (Ok (Some x)) s h = absurd (let z : ◌≡◌ {A = ℕ} 0 1 = cc in omega arith)
+  falls (gives y a) a' (Ok (Some x)) s h = let q : how_many a' ≡ how_many a = ap how_many h in omega arith

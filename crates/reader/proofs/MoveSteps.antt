@@ -1,17 +1,19 @@
 -- The moves of an entry, one after another.
-use Rattle.std.proofs.Common.{◌≡◌, ℕ, List, [], ◌∷◌, ℤ, Some, None, Ok, Option as Maybe, refl, ap, ◌∙◌}
+use Rattle.std.proofs.Common.{◌≡◌, ℕ, List, [], ◌∷◌, ℤ, Some, None, Ok, Err, Option as Maybe, Result, refl, ap, ◌∙◌}
 use Rattle.format.specs.Reader.{Move, moves_of}
-use Rattle.streams.specs.declared.deltas.DeltaCursor.{DeltaCursor}
 use Rattle.streams.specs.Ahead.{ends, give_all}
-use Rattle.streams.specs.Deltas.{deltas_ahead, DeltaStep}
+use Rattle.streams.specs.declared.fault.StreamFault.{StreamFault}
+use Rattle.streams.specs.Deltas.{DeltaCursor, deltas_ahead, DeltaStep}
+use Rattle.std.specs.Result.{result_unwrap_or}
 use Rattle.reader.specs.MoveWalks.{DeltaCame}
-use Rattle.reader.proofs.AheadSteps.{comes, ends_here}
+use Rattle.reader.proofs.AheadSteps.{comes, ends_here, no_fault}
 
 -- a step of a cursor over deltas
-pub delta_came : (c c' : DeltaCursor) (vs : List ℤ) (past : ℕ) (o : Maybe ℤ) → deltas_ahead c ≡ give_all vs (ends past) → DeltaStep c (Ok o) c' → DeltaCame vs o c'
-delta_came c c' vs past None e s = ends_here (deltas_ahead c) (deltas_ahead c') past vs e s.answer
-delta_came c c' vs past (Some v) e s =
-    let r = comes (deltas_ahead c) (deltas_ahead c') past vs v e s.answer s.ahead in
+pub delta_came : (c c' : DeltaCursor) (vs : List ℤ) (past : ℕ) (r : Result (Maybe ℤ) StreamFault) → deltas_ahead c ≡ give_all vs (ends past) → DeltaStep c r c' → DeltaCame vs (result_unwrap_or r None) c'
+delta_came c c' vs past (Err f) e s = no_fault (deltas_ahead c) (deltas_ahead c') past vs f e s.answer
+delta_came c c' vs past (Ok None) e s = ends_here (deltas_ahead c) (deltas_ahead c') past vs e s.answer
+delta_came c c' vs past (Ok (Some v)) e s =
+    let r = comes (deltas_ahead c) (deltas_ahead c') past vs v e s.answer s.left in
     (r.0, r.1, (past, r.2))
 
 -- no move where no x or no y is left

@@ -1,5 +1,5 @@
 -- The points of an entry, one after another.
-use Rattle.std.proofs.Common.{◌≡◌, ℕ, zero, suc, ◌+◌, ◌-◌, ◌<◌, Bool, true, false, List, ◌∷◌, drop, Some, None, Ok, Option as Maybe, sym, refl, ap, ◌∙◌, arith}
+use Rattle.std.proofs.Common.{◌≡◌, ℕ, zero, suc, ◌+◌, ◌-◌, ◌<◌, List, ◌∷◌, drop, Some, None, Ok, Err, Option as Maybe, Result, sym, refl, ap, ◌∙◌, arith}
 use mathlib.Core.Option.{none}
 use Rattle.format.specs.Account.{Declined, declined}
 use Rattle.format.specs.Packed.{Points, every, only}
@@ -7,15 +7,14 @@ use Rattle.format.specs.Glyphs.{listed}
 use Rattle.format.specs.Streams.{Rest, rest, Read, found, fault, and_then, point_runs, read_points}
 use Rattle.format.specs.Reader.{points_of}
 use Rattle.streams.specs.declared.fault.StreamFault.{StreamFault}
-use Rattle.streams.specs.declared.points.PointCursor.{PointCursor}
 use Rattle.streams.specs.Faults.{stream_declined}
 use Rattle.streams.specs.Ahead.{ends, give_all, read_ahead}
-use Rattle.streams.specs.Points.{points_ahead, PointStep, by_count}
-use Rattle.slots.specs.Entries.{own_or_shared}
+use Rattle.std.specs.Result.{result_unwrap_or}
+use Rattle.streams.specs.Points.{PointCursor, points_ahead, PointStep, by_count}
 use Rattle.slots.proofs.HeadSteps.{not_both}
 use Rattle.reader.specs.declared.points.PointWalk.TheVariants.{Listed}
 use Rattle.reader.specs.PointWalks.{PointsLeft, Came}
-use Rattle.reader.proofs.AheadSteps.{gives_all, comes, ends_here}
+use Rattle.reader.proofs.AheadSteps.{gives_all, comes, ends_here, no_fault}
 
 pub any_decline : ℕ → ℕ → Declined
 any_decline n at = declined n none none none
@@ -27,10 +26,11 @@ every_next q p qs h e =
     e ∙ ap (λ m. listed q m (λ i. i)) s ∙ ap (λ j. q ∷ listed j (p - (q + 1)) (λ i. i)) t
 
 -- a step of the list's cursor
-pub came : (c c' : PointCursor) (qs : List ℕ) (past : ℕ) (o : Maybe ℕ) → points_ahead c ≡ give_all qs (ends past) → PointStep c (Ok o) c' → Came qs o (Listed c')
-came c c' qs past None e s = ends_here (points_ahead c) (points_ahead c') past qs e s.answer
-came c c' qs past (Some q) e s =
-    let r = comes (points_ahead c) (points_ahead c') past qs q e s.answer s.ahead in
+pub came : (c c' : PointCursor) (qs : List ℕ) (past : ℕ) (r : Result (Maybe ℕ) StreamFault) → points_ahead c ≡ give_all qs (ends past) → PointStep c r c' → Came qs (result_unwrap_or r None) (Listed c')
+came c c' qs past (Err f) e s = no_fault (points_ahead c) (points_ahead c') past qs f e s.answer
+came c c' qs past (Ok None) e s = ends_here (points_ahead c) (points_ahead c') past qs e s.answer
+came c c' qs past (Ok (Some q)) e s =
+    let r = comes (points_ahead c) (points_ahead c') past qs q e s.answer s.left in
     (r.0, r.1, (past, r.2))
 
 -- the start
@@ -65,31 +65,21 @@ listed_points : (d : ℕ → ℕ → Declined) (p : ℕ) (bs : List ℕ) (n past
 listed_points d p bs n past (only qs) left e h f = counted_inv (point_runs d n p n 0 0 (drop past bs) past) qs left e (sym (some_count d p bs n past h) ∙ f)
 listed_points d p bs n past every left e h f = absurd (no_every (point_runs d n p n 0 0 (drop past bs) past) left e (sym (some_count d p bs n past h) ∙ f))
 
-own_true : (d : ℕ → ℕ → Declined) (p : ℕ) (b : Bool) (bs : List ℕ) (at : ℕ) → b ≡ true → own_or_shared d p every b bs at ≡ read_points d p bs at
-own_true d p b bs at e = rw e
-
-own_false : (d : ℕ → ℕ → Declined) (p : ℕ) (b : Bool) (bs : List ℕ) (at : ℕ) → b ≡ false → own_or_shared d p every b bs at ≡ found (rest every bs at)
-own_false d p b bs at e = rw e
-
 no_count : (d : ℕ → ℕ → Declined) (p : ℕ) (bs : List ℕ) (n past : ℕ) → n ≡ 0 → by_count d p bs n past ≡ found (rest every (drop past bs) past)
 no_count d p bs n past e = rw e
 
-module _ (p : ℕ) (set : Points) (left : List ℕ) (e : ℕ) (bs : List ℕ) (at : ℕ) (b : Bool)
-    (f : own_or_shared any_decline p every b (drop at bs) at ≡ found (rest set left e)) where
-  pub unlisted : b ≡ false → points_of p set ≡ listed 0 (p - 0) (λ i. i)
-  unlisted eb = all_points p set left (drop at bs) e at (own_or_shared any_decline p every b (drop at bs) at) (own_false any_decline p b (drop at bs) at eb) f
+pub unlisted : (p : ℕ) (set : Points) → set ≡ every → points_of p set ≡ listed 0 (p - 0) (λ i. i)
+unlisted p set e = let z : p ≡ p - 0 = omega arith in ap (points_of p) e ∙ ap (λ m. listed 0 m (λ i. i)) z
 
-  module _ (eb : b ≡ true) where
-    pub faulty : (g : StreamFault) → read_points any_decline p (drop at bs) at ≡ fault (stream_declined any_decline g) → points_of p set ≡ listed 0 (p - 0) (λ i. i)
-    faulty g h = absurd (not_both (own_or_shared any_decline p every b (drop at bs) at) _ _ (own_true any_decline p b (drop at bs) at eb ∙ h) f)
+module _ (p : ℕ) (set : Points) (left : List ℕ) (e : ℕ) (bs : List ℕ) (at : ℕ) (f : read_points any_decline p (drop at bs) at ≡ found (rest set left e)) where
+  pub faulty : (g : StreamFault) → read_points any_decline p (drop at bs) at ≡ fault (stream_declined any_decline g) → points_of p set ≡ listed 0 (p - 0) (λ i. i)
+  faulty g h = absurd (not_both (read_points any_decline p (drop at bs) at) _ _ h f)
 
-    module _ (n past : ℕ) (h : read_points any_decline p (drop at bs) at ≡ by_count any_decline p bs n past) where
-      pub uncounted : n ≡ 0 → points_of p set ≡ listed 0 (p - 0) (λ i. i)
-      uncounted z =
-          all_points p set left (drop past bs) e past (own_or_shared any_decline p every b (drop at bs) at)
-          (own_true any_decline p b (drop at bs) at eb ∙ h ∙ no_count any_decline p bs n past z) f
+  module _ (n past : ℕ) (h : read_points any_decline p (drop at bs) at ≡ by_count any_decline p bs n past) where
+    pub uncounted : n ≡ 0 → points_of p set ≡ listed 0 (p - 0) (λ i. i)
+    uncounted z = all_points p set left (drop past bs) e past (read_points any_decline p (drop at bs) at) (h ∙ no_count any_decline p bs n past z) f
 
-      pub counted : (c : PointCursor) → 0 < n → read_ahead any_decline bs (points_ahead c) ≡ point_runs any_decline n p n 0 0 (drop past bs) past → PointsLeft (Listed c) (points_of p set)
-      counted c z r =
-          let m = listed_points any_decline p bs n past set left e z (sym h ∙ sym (own_true any_decline p b (drop at bs) at eb) ∙ f) in
-          (e, gives_all any_decline bs (points_ahead c) (points_of p set) left e (r ∙ m))
+    pub counted : (c : PointCursor) → 0 < n → read_ahead any_decline bs (points_ahead c) ≡ point_runs any_decline n p n 0 0 (drop past bs) past → PointsLeft (Listed c) (points_of p set)
+    counted c z r =
+        let m = listed_points any_decline p bs n past set left e z (sym h ∙ f) in
+        (e, gives_all any_decline bs (points_ahead c) (points_of p set) left e (r ∙ m))

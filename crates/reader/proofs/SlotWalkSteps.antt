@@ -1,9 +1,9 @@
 -- The walk over a slot: how many entries are left, and the next of them.
-use Rattle.std.proofs.Common.{◌≡◌, ℕ, zero, suc, ◌+◌, Bool, true, false, ltb, List, [], ◌∷◌, length, take, drop, sym, refl, ap, ◌∙◌, arith}
+use Rattle.std.proofs.Common.{◌≡◌, ℕ, zero, suc, ◌+◌, Bool, true, false, ltb, List, [], ◌∷◌, length, take, drop, Some, None, Option as Maybe, sym, refl, ap, ◌∙◌, subst, arith}
 use mathlib.Core.Option.{Option, none, some}
 use Rattle.std.proofs.lemmas.Bool.{cond-true, cond-false}
 use Rattle.format.specs.Account.{Declined, Condition, first_of}
-use Rattle.format.specs.Packed.{Points}
+use Rattle.format.specs.Packed.{Points, every}
 use Rattle.format.specs.Streams.{Rest, rest, Read, found, fault, fault_if, and_then}
 use Rattle.format.specs.Reader.{Header, Entry, Checked, header_then, read_header, read_headers, read_entry, read_entries, peak_conditions, at_entry}
 use Rattle.slots.specs.declared.entry.Parts.{Parts}
@@ -11,7 +11,10 @@ use Rattle.slots.specs.Heads.{no_peak}
 use Rattle.slots.specs.Entries.{EntryRead}
 use Rattle.reader.specs.declared.points.PointList.{PointList}
 use Rattle.reader.specs.PointWalks.{ListRead}
-use Rattle.reader.specs.SlotWalks.{ListOf}
+use Rattle.slots.specs.Slots.{shared_read}
+use Rattle.reader.specs.declared.slot.Slot.{Slot}
+use Rattle.reader.specs.SlotWalks.{list_at, ListOf}
+use Rattle.reader.proofs.PointWalkSteps.{any_decline}
 
 -- how many headers and entries are read
 
@@ -65,15 +68,18 @@ peaks_next g peaks i hs h tl e f =
     (x.0, ap (λ j. first_of (peak_conditions g peaks j tl)) t ∙ x.1)
 
 -- the list of an entry's points, which are its own or the shared ones
-pub list_read : (b : Bool) (bs : List ℕ) (at p : ℕ) (set : Points) (q : Parts) (shared r : PointList) (y : EntryRead bs at p set b q) → ListRead shared p set → ListOf b bs at shared r → ListRead r p y.set
+pub list_read : (b : Bool) (bs : List ℕ) (at p : ℕ) (set : Points) (q : Parts) (shared r : Maybe PointList) (y : EntryRead bs at p set b q) → ListRead shared p set → ListOf b bs at shared r → ListRead r p y.set
 list_read true bs at p set q shared r y w k =
-    record { left = drop q.x bs; past = q.x; is_read = λ d. (rw (k.0, k.1, k.2) (y.set_read d)) }
+    rw k.1 (record { left = drop q.x bs; past = q.x; is_read = λ d. (rw (k.2, k.3) (y.set_read d)) })
 list_read false bs at p set q shared r y w k =
-    record {
-      left = w.left;
-      past = w.past;
-      is_read = λ d.
-          let e : found (rest set (drop at bs) at) ≡ found (rest y.set (drop q.x bs) q.x) = y.set_read d in
-          let f : rest set (drop at bs) at ≡ rest y.set (drop q.x bs) q.x = cc in
-          rw k (w.is_read d) ∙ ap (λ z. found (rest z w.left w.past)) (ap (λ z. z.value) f);
-    }
+    let e : found (rest set (drop at bs) at) ≡ found (rest y.set (drop q.x bs) q.x) = y.set_read any_decline in
+    let f : rest set (drop at bs) at ≡ rest y.set (drop q.x bs) q.x = cc in
+    rw k (subst (λ (s : Points). ListRead shared p s) (ap (λ z. z.value) f) w)
+
+-- the list of a slot's shared points
+pub first_list : (s : Slot) (m : Maybe ℕ) (p body : ℕ) (set : Points) → ((d : ℕ → ℕ → Declined) → shared_read d p s.bytes.now m body ≡ found (rest set (drop body s.bytes.now) body)) → ListRead (list_at s m) p set
+first_list s None p body set h =
+    let e : found (rest every (drop body s.bytes.now) body) ≡ found (rest set (drop body s.bytes.now) body) = h any_decline in
+    let f : rest every (drop body s.bytes.now) body ≡ rest set (drop body s.bytes.now) body = cc in
+    sym (ap (λ z. z.value) f)
+first_list s (Some at) p body set h = record { left = drop body s.bytes.now; past = body; is_read = h }

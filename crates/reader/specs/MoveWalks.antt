@@ -1,9 +1,8 @@
 -- What a walk over moves still gives.
 use Rattle.std.specs.Prelude.{◌≡◌, ℕ, suc, ◌<◌, List, [], ◌∷◌, ℤ, Some, None, Option as Maybe}
 use Rattle.format.specs.Reader.{Move as ReadMove, moves_of}
-use Rattle.streams.specs.declared.deltas.DeltaCursor.{DeltaCursor}
 use Rattle.streams.specs.Ahead.{Ahead, ends, fails, gives, give_all}
-use Rattle.streams.specs.Deltas.{deltas_ahead}
+use Rattle.streams.specs.Deltas.{DeltaCursor, deltas_ahead}
 use Rattle.reader.specs.declared.moves.Move.{Move}
 use Rattle.reader.specs.declared.moves.Moves.{Moves}
 use Rattle.reader.specs.PointWalks.{PointsLeft}
@@ -54,3 +53,8 @@ move_of m = record { point = m.point; x = m.x; y = m.y }
 abbrev pub Moved : List ReadMove → Maybe Move → Moves → Type 0
 Moved ms None w = ms ≡ []
 Moved ms (Some m) w = (tl : List ReadMove) × (ms ≡ move_of m ∷ tl) × MovesLeft w tl
+
+-- one call: the first of the moves came, and fewer are left
+pub record MoveStep (w : Moves) (r : Maybe Move) (w' : Moves) : Type 0 where
+  pub moved : (ms : List ReadMove) → MovesLeft w ms → Moved ms r w'
+  pub falls : Falls r (moves_bound w) (moves_bound w')

@@ -3,19 +3,23 @@ use Rattle.std.specs.Prelude.{◌≡◌, ℕ, ◌-◌, List, [], ◌∷◌, drop
 use Rattle.format.specs.Account.{Declined}
 use Rattle.format.specs.Packed.{Points, every}
 use Rattle.format.specs.Glyphs.{listed}
-use Rattle.format.specs.Streams.{rest, found}
+use Rattle.format.specs.Streams.{rest, found, read_points}
 use Rattle.streams.specs.Ahead.{ends, give_all}
 use Rattle.streams.specs.Points.{points_ahead}
-use Rattle.slots.specs.Entries.{own_or_shared}
 use Rattle.reader.specs.declared.points.PointList.{PointList}
 use Rattle.reader.specs.declared.points.PointWalk.{PointWalk}
 use Rattle.reader.specs.declared.points.PointWalk.TheVariants.{Every, Listed}
 
 -- a list of points is read without fault as this set
-pub record ListRead (l : PointList) (p : ℕ) (set : Points) : Type 0 where
+pub record PlaceRead (l : PointList) (p : ℕ) (set : Points) : Type 0 where
   pub left : List ℕ
   pub past : ℕ
-  pub is_read : (d : ℕ → ℕ → Declined) → own_or_shared d p every l.listed (drop l.at l.bytes.now) l.at ≡ found (rest set left past)
+  pub is_read : (d : ℕ → ℕ → Declined) → read_points d p (drop l.at l.bytes.now) l.at ≡ found (rest set left past)
+
+-- the points of a list, or every point where there is none
+abbrev pub ListRead : Maybe PointList → ℕ → Points → Type 0
+ListRead None p set = set ≡ every
+ListRead (Some l) p set = PlaceRead l p set
 
 -- these points are still to come
 abbrev pub PointsLeft : PointWalk → List ℕ → Type 0

@@ -17,6 +17,15 @@ use Rattle.reader.specs.Faults.{fault_declined}
 use Rattle.reader.specs.Tables.{Sound}
 use Rattle.reader.specs.Tuples.{Holds}
 use Rattle.reader.specs.PointWalks.{ListRead}
+use Rattle.reader.specs.MoveWalks.{Falls}
+
+-- where the shared points of a slot are listed, if they are
+abbrev pub list_at : Slot → Maybe ℕ → Maybe PointList
+list_at s None = None
+list_at s (Some at) = Some (record { bytes = s.bytes; at = at })
+
+abbrev pub shared_list : Slot → Maybe PointList
+shared_list s = list_at s s.rest.points
 
 -- these entries are still to come
 pub record Walk (s : Slot) (es : List ReadEntry) : Type 0 where
@@ -25,23 +34,23 @@ pub record Walk (s : Slot) (es : List ReadEntry) : Type 0 where
   pub in_table : s.bytes.now ≡ take slot_end s.table.bytes.now
   -- the shared points
   pub set : Points
-  pub number : length (points_of s.p set) ≡ s.shared
-  pub set_read : ListRead s.list s.p set
+  pub number : length (points_of s.p set) ≡ s.rest.shared
+  pub set_read : ListRead (shared_list s) s.p set
   -- the headers that are left, each with its peak
   pub glyph : ℕ
   pub headers : List Header
   pub left : List ℕ
   pub past : ℕ
-  pub heads_read : read_headers glyph s.table.head.axes s.i (s.count - s.i) (drop s.header s.bytes.now) s.header ≡ found (rest headers left past)
+  pub heads_read : read_headers glyph s.table.head.axes s.i (s.rest.count - s.i) (drop s.rest.header s.bytes.now) s.rest.header ≡ found (rest headers left past)
   pub peaks_there : first_of (peak_conditions glyph s.table.head.peaks s.i headers) ≡ none
   -- their entries
   pub after : List ℕ
   pub end : ℕ
-  pub entries_read : read_entries (checked s.table.bytes.now) glyph s.p set s.i headers (drop s.body s.bytes.now) s.body ≡ found (rest es after end)
+  pub entries_read : read_entries (checked s.table.bytes.now) glyph s.p set s.i headers (drop s.rest.body s.bytes.now) s.rest.body ≡ found (rest es after end)
 
 -- at most so many entries are still to come
 abbrev pub entries_bound : Slot → ℕ
-entries_bound s = s.count - s.i
+entries_bound s = s.rest.count - s.i
 
 -- the slot of glyph g is read, and its entries are those of the walk
 pub record SlotOpened (t : Table) (g p : ℕ) (s : Slot) : Type 0 where
@@ -79,12 +88,17 @@ abbrev pub Walked : List ReadEntry → Maybe Entry → Slot → Type 0
 Walked es None s = (es ≡ []) × Walk s es
 Walked es (Some e) s = (x : ReadEntry) × (xs : List ReadEntry) × (es ≡ x ∷ xs) × Shows e x × Walk s xs
 
+-- one call: the first of the entries came, and fewer are left
+pub record EntryStep (s : Slot) (r : Maybe Entry) (s' : Slot) : Type 0 where
+  pub walked : (es : List ReadEntry) → Walk s es → Walked es r s'
+  pub falls : Falls r (entries_bound s) (entries_bound s')
+
 -- the stored region holds the bounds, or they are the implied ones
 abbrev pub Bounds : Table → ReadEntry → Maybe Region → Type 0
 Bounds t x None = (x.start ≡ map implied_start x.peak) × (x.end ≡ map implied_end x.peak)
 Bounds t x (Some r) = Holds t r.start x.start × Holds t r.end x.end
 
 -- a list of points of its own at a place, or the shared one
-abbrev pub ListOf : Bool → List ℕ → ℕ → PointList → PointList → Type 0
-ListOf true bs at shared r = (r.bytes.now ≡ bs) × (r.at ≡ at) × (r.listed ≡ true)
+abbrev pub ListOf : Bool → List ℕ → ℕ → Maybe PointList → Maybe PointList → Type 0
+ListOf true bs at shared r = (l : PointList) × (r ≡ Some l) × (l.bytes.now ≡ bs) × (l.at ≡ at)
 ListOf false bs at shared r = r ≡ shared

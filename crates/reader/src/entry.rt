@@ -21,7 +21,7 @@ pub struct Entry<'a> {
     pub(crate) head: Head,
     pub(crate) bytes: &'a [u8],
     pub(crate) parts: Parts,
-    pub(crate) list: PointList<'a>,
+    pub(crate) list: Option<PointList<'a>>,
     pub(crate) p: u16,
 }
 

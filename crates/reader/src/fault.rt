@@ -5,6 +5,7 @@ ghost use Rattle.reader.specs.Faults.{table_declined, fault_declined, layer_said
 ghost use Rattle.reader.specs.declared.fault.Fault.TheVariants.{InTable};
 
 use slots::fault::{EntryFault, SlotFault};
+use std::error::Error;
 use std::fmt;
 
 // A fault of a table's head, or of the offset at a place.
@@ -50,9 +51,7 @@ impl TableFault {
         match self {
             TableFault::Short => 16,
             TableFault::Version => 17,
-            TableFault::NoOffsets => 18,
-            TableFault::NoPeaks => 18,
-            TableFault::NoData => 18,
+            TableFault::NoOffsets | TableFault::NoPeaks | TableFault::NoData => 18,
             TableFault::Offset(_) => 19,
         }
     }
@@ -88,8 +87,8 @@ impl Fault {
     {
         match self {
             Fault::InTable(_) => Layer::Table,
-            Fault::InSlot(_, SlotFault::Shared(_)) => Layer::Stream,
-            Fault::InSlot(_, SlotFault::InEntry(_, EntryFault::Stream(_))) => Layer::Stream,
+            Fault::InSlot(_, SlotFault::Shared(_) | SlotFault::InEntry(_, EntryFault::Stream(_))) =>
+                Layer::Stream,
             Fault::InSlot(_, SlotFault::InEntry(_, EntryFault::LeftOver(_))) => Layer::Entry,
             _ => Layer::Slot,
         }
@@ -101,8 +100,7 @@ impl Fault {
     {
         match self {
             Fault::InTable(_) => None,
-            Fault::NoGlyph(glyph) => Some(glyph),
-            Fault::InSlot(glyph, _) => Some(glyph),
+            Fault::NoGlyph(glyph) | Fault::InSlot(glyph, _) => Some(glyph),
         }
     }
 
@@ -111,8 +109,7 @@ impl Fault {
         ensures { said result ≡ (fault_declined self).variation }
     {
         match self {
-            Fault::InTable(_) => None,
-            Fault::NoGlyph(_) => None,
+            Fault::InTable(_) | Fault::NoGlyph(_) => None,
             Fault::InSlot(_, f) => f.variation(),
         }
     }
@@ -158,3 +155,15 @@ impl fmt::Display for Fault {
         Ok(())
     }
 }
+
+impl Error for Fault {}
+
+// As a fault of a reading.
+impl fmt::Display for TableFault {
+    fn fmt<W: fmt::Write>(&self, f: &mut fmt::Formatter<W>) -> fmt::Result {
+        let fault = Fault::InTable(*self);
+        write!(f, "{fault}")
+    }
+}
+
+impl Error for TableFault {}

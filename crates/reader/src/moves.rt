@@ -1,7 +1,7 @@
 // The moves of an entry: its points with x and y in step.
-ghost use Rattle.std.specs.Prelude.{◌<◌, List, ℤ};
-ghost use Rattle.format.specs.Reader.{Move as ReadMove};
-ghost use Rattle.reader.specs.MoveWalks.{DeltasLeft, DeltaCame, Falls, deltas_bound, MovesLeft, Moved, moves_bound};
+ghost use Rattle.std.specs.Prelude.{List, ℤ};
+ghost use Rattle.std.specs.Iterator.{at_most};
+ghost use Rattle.reader.specs.MoveWalks.{DeltasLeft, DeltaCame, Falls, deltas_bound, moves_bound, MoveStep};
 
 use crate::points::PointWalk;
 use streams::deltas::DeltaCursor;
@@ -27,18 +27,18 @@ fn next_delta<'a>(cursor: &mut DeltaCursor<'a>) -> Option<i16>
     ensures came { (vs : List ℤ) → DeltasLeft cursor.old vs → DeltaCame vs result cursor.new }
     ensures falls { Falls result (deltas_bound cursor.old) (deltas_bound cursor.new) }
 {
-    match cursor.next() {
-        Ok(o) => o,
-        Err(_) => None,
-    }
+    cursor.next().unwrap_or(None)
 }
 
-impl<'a> Moves<'a> {
+impl<'a> Iterator for Moves<'a> {
+    type Item = Move;
+
+    ghost next_gives = { MoveStep };
+
+    ghost remaining = { λ m. at_most (moves_bound m) };
+
     // The next move, if one is left.
-    pub fn next(&mut self) -> Option<Move>
-        ensures moved { (ms : List ReadMove) → MovesLeft self.old ms → Moved ms result self.new }
-        ensures falls { Falls result (moves_bound self.old) (moves_bound self.new) }
-    {
+    fn next(&mut self) -> Option<Move> {
         let point = self.points.next()?;
         let x = next_delta(&mut self.xs)?;
         let y = next_delta(&mut self.ys)?;

@@ -6,12 +6,11 @@ ghost use Rattle.reader.specs.PointWalks.{ListRead, PointsLeft, Came};
 
 use streams::points::{PointCursor, read_count};
 
-// Where a list of points is, if there is one; otherwise it is every point.
+// Where a list of points is.
 #[derive(Clone, Copy)]
 pub struct PointList<'a> {
     pub(crate) bytes: &'a [u8],
     pub(crate) at: usize,
-    pub(crate) listed: bool,
 }
 
 // Every point from one on, below p, or those of a list.
@@ -22,13 +21,13 @@ pub enum PointWalk<'a> {
 }
 
 impl<'a> PointWalk<'a> {
-    // The points of a list that was read without fault.
-    pub(crate) fn new(list: PointList<'a>, p: u16) -> PointWalk<'a>
+    // The points of a list that was read without fault, or every point where there is none.
+    pub(crate) fn new(list: Option<PointList<'a>>, p: u16) -> PointWalk<'a>
         ensures { (set : Points) → ListRead list.entry p set → PointsLeft result (points_of p set) }
     {
-        if !list.listed {
+        let Some(list) = list else {
             return PointWalk::Every(0, p);
-        }
+        };
         match read_count(list.bytes, list.at) {
             Err(_) => PointWalk::Every(0, p),
             Ok(head) => {
@@ -54,12 +53,9 @@ impl<'a> PointWalk<'a> {
             }
             PointWalk::Listed(old) => {
                 let mut cursor = old;
-                let answer = cursor.next();
+                let point = cursor.next().unwrap_or(None);
                 *self = PointWalk::Listed(cursor);
-                match answer {
-                    Ok(o) => o,
-                    Err(_) => None,
-                }
+                point
             }
         }
     }

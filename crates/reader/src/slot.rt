@@ -1,44 +1,29 @@
 // The slot of a glyph, and the walk over its entries.
-ghost use Rattle.std.specs.Prelude.{◌≡◌, ◌+◌, ◌*◌, ◌≤◌, ◌||◌, List, length, take, if◌then◌else◌, Ok, Err, nat_le, nat_lt};
+ghost use Rattle.std.specs.Prelude.{◌≡◌, ◌+◌, ◌*◌, ◌≤◌, ◌||◌, List, length, if◌then◌else◌, Ok, Err, nat_le, nat_lt};
+ghost use Rattle.std.specs.Iterator.{at_most};
 ghost use Rattle.format.specs.Account.{Declined};
 ghost use Rattle.format.specs.Reader.{Entry as ReadEntry, read_glyph};
 ghost use Rattle.format.specs.Streams.{found, fault};
 ghost use Rattle.reader.specs.Faults.{fault_declined};
 ghost use Rattle.reader.specs.Tables.{Sound, offset_in};
-ghost use Rattle.reader.specs.MoveWalks.{Falls};
-ghost use Rattle.reader.specs.SlotWalks.{SlotAnswer, ListOf, Walk, Walked, entries_bound};
+ghost use Rattle.reader.specs.SlotWalks.{SlotAnswer, ListOf, Walk, shared_list, entries_bound, EntryStep};
 
 use crate::entry::Entry;
 use crate::fault::Fault;
 use crate::points::PointList;
-use crate::table::{Table, offset_at};
-use slots::entries::entry_at;
+use crate::table::{Table, offset_at, offset_size};
+use slots::bytes::{SlotBytes, upto};
 use slots::headers::is_private;
-use slots::slot::check_slot;
+use slots::slot::SlotStart;
 
-// The entries of a slot that are still to come.
+// The entries of a slot that are still to come: from entry i on, with the next header and the next data.
 #[derive(Clone, Copy)]
 pub struct Slot<'a> {
     pub(crate) table: Table<'a>,
     pub(crate) bytes: &'a [u8],
     pub(crate) p: u16,
-    pub(crate) count: u16,
     pub(crate) i: u16,
-    pub(crate) header: usize,
-    pub(crate) body: usize,
-    pub(crate) shared: u16,
-    pub(crate) list: PointList<'a>,
-}
-
-// The bytes before `end`.
-fn upto<'a>(bytes: &'a [u8], end: usize) -> &'a [u8]
-    ensures { result.now ≡ take end bytes.now }
-{
-    if end < bytes.len() {
-        &bytes[0..end]
-    } else {
-        bytes
-    }
+    pub(crate) rest: SlotStart,
 }
 
 // Is there no such glyph, or are there too many points?
@@ -49,15 +34,16 @@ fn is_no_glyph(glyphs: u16, glyph: u16, p: u16) -> bool
 }
 
 // An entry's own list of points, or the shared one.
-fn list_of<'a>(own: bool, bytes: &'a [u8], at: usize, shared: PointList<'a>) -> PointList<'a>
+fn list_of<'a>(
+    own: bool,
+    bytes: &'a [u8],
+    at: usize,
+    shared: Option<PointList<'a>>,
+) -> Option<PointList<'a>>
     ensures { ListOf own bytes.now at shared.entry result }
 {
     if own {
-        PointList {
-            bytes,
-            at,
-            listed: true,
-        }
+        Some(PointList { bytes, at })
     } else {
         shared
     }
@@ -68,8 +54,7 @@ impl<'a> Table<'a> {
     fn offset(&self, i: u32) -> u32
         ensures { 20 + (if self.now.head.long then 4 else 2) * (i + 1) ≤ length self.now.bytes.now → result ≡ offset_in self.now.bytes.now self.now.head.long i }
     {
-        let size = if self.head.long { 4 } else { 2 };
-        if self.bytes.len() < 20 + size * (i as usize + 1) {
+        if self.bytes.len() < 20 + offset_size(self.head.long) * (i as usize + 1) {
             return 0;
         }
         offset_at(self.bytes, self.head.long, i as usize)
@@ -86,22 +71,20 @@ impl<'a> Table<'a> {
         let start = data + self.offset(glyph as u32) as usize;
         let end = data + self.offset(glyph as u32 + 1) as usize;
         let bytes = upto(self.bytes, end);
-        match check_slot(bytes, start, self.head.axes, self.head.peaks, p) {
+        let within = SlotBytes {
+            table: bytes,
+            axes: self.head.axes,
+            peaks: self.head.peaks,
+            p,
+        };
+        match within.check_slot(start) {
             Err(f) => Err(Fault::InSlot(glyph, f)),
-            Ok(s) => Ok(Slot {
+            Ok(rest) => Ok(Slot {
                 table: *self,
                 bytes,
                 p,
-                count: s.count,
                 i: 0,
-                header: s.header,
-                body: s.body,
-                shared: s.shared,
-                list: PointList {
-                    bytes,
-                    at: s.points,
-                    listed: s.listed,
-                },
+                rest,
             }),
         }
     }
@@ -113,33 +96,53 @@ impl<'a> Slot<'a> {
         ensures bound { result ≡ entries_bound self.now }
         ensures entries { (es : List ReadEntry) → Walk self.now es → result ≡ length es }
     {
-        self.count.saturating_sub(self.i)
+        self.rest.count.saturating_sub(self.i)
     }
 
-    // The next entry, if one is left.
-    pub fn next(&mut self) -> Option<Entry<'a>>
-        ensures walked { (es : List ReadEntry) → Walk self.old es → Walked es result self.new }
-        ensures falls { Falls result (entries_bound self.old) (entries_bound self.new) }
+    // Where the shared points are listed, if they are.
+    fn shared_list(&self) -> Option<PointList<'a>>
+        ensures { result ≡ shared_list self.now }
     {
-        if self.i >= self.count {
+        let at = self.rest.points?;
+        Some(PointList {
+            bytes: self.bytes,
+            at,
+        })
+    }
+}
+
+impl<'a> Iterator for Slot<'a> {
+    type Item = Entry<'a>;
+
+    ghost next_gives = { EntryStep };
+
+    ghost remaining = { λ s. at_most (entries_bound s) };
+
+    // The next entry, if one is left.
+    fn next(&mut self) -> Option<Entry<'a>> {
+        if self.i >= self.rest.count {
             return None;
         }
-        match entry_at(
-            self.bytes,
-            self.header,
-            self.body,
-            self.i,
-            self.table.head.axes,
-            self.p,
-            self.shared,
-        ) {
+        let SlotStart {
+            header,
+            body,
+            shared,
+            ..
+        } = self.rest;
+        let within = SlotBytes {
+            table: self.bytes,
+            axes: self.table.head.axes,
+            peaks: self.table.head.peaks,
+            p: self.p,
+        };
+        match within.entry_at(header, body, self.i, shared) {
             Err(_) => None,
             Ok(step) => {
                 let bytes = upto(self.bytes, step.end);
-                let list = list_of(is_private(step.head.index), bytes, self.body, self.list);
+                let list = list_of(is_private(step.head.index), bytes, body, self.shared_list());
                 self.i += 1;
-                self.header = step.head.past;
-                self.body = step.next;
+                self.rest.header = step.head.past;
+                self.rest.body = step.next;
                 Some(Entry {
                     table: self.table,
                     slot: self.bytes,

@@ -41,6 +41,13 @@ fn long_in(bytes: &[u8], at: usize) -> u32
     word_in(bytes, at) as u32 * 65536 + word_in(bytes, at + 2) as u32
 }
 
+// How many bytes an offset takes.
+pub(crate) fn offset_size(long: bool) -> usize
+    ensures { result ≡ (if long then 4 else 2) }
+{
+    if long { 4 } else { 2 }
+}
+
 // The fields of the head, or the first condition on them that applies.
 fn read_head(bytes: &[u8]) -> Result<Head, TableFault>
     ensures { HeadChecked bytes.now result }
@@ -58,8 +65,7 @@ fn read_head(bytes: &[u8]) -> Result<Head, TableFault>
     let glyphs = word_in(bytes, 12);
     let long = word_in(bytes, 14) % 2 == 1;
     let data_at = long_in(bytes, 16);
-    let size = if long { 4 } else { 2 };
-    if len < HEAD_SIZE + size * (glyphs as usize + 1) {
+    if len < HEAD_SIZE + offset_size(long) * (glyphs as usize + 1) {
         return Err(TableFault::NoOffsets);
     }
     if len < peaks_at as usize + 2 * (axes as usize * peaks as usize) {
@@ -98,10 +104,7 @@ fn first_bad(bytes: &[u8], long: bool, glyphs: u16, data_at: u32) -> Option<u32>
     let mut last = 0;
     for i in 0..glyphs as u32 + 1 {
         let at = offset_at(bytes, long, i as usize);
-        if at < last {
-            return Some(i);
-        }
-        if bytes.len() < data_at as usize + at as usize {
+        if at < last || bytes.len() < data_at as usize + at as usize {
             return Some(i);
         }
         last = at;
@@ -113,11 +116,7 @@ fn first_bad(bytes: &[u8], long: bool, glyphs: u16, data_at: u32) -> Option<u32>
 fn offset_place(long: bool, i: u32) -> usize
     ensures { result ≡ 20 + (if long then 4 else 2) * i }
 {
-    if long {
-        HEAD_SIZE + 4 * i as usize
-    } else {
-        HEAD_SIZE + 2 * i as usize
-    }
+    HEAD_SIZE + offset_size(long) * i as usize
 }
 
 impl<'a> Table<'a> {

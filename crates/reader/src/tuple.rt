@@ -3,6 +3,9 @@ ghost use Rattle.std.specs.Prelude.{◌≡◌, ◌+◌, ◌*◌, ◌≤◌, leng
 ghost use Rattle.format.specs.Account.{implied_start, implied_end};
 ghost use Rattle.reader.specs.Tuples.{values_of, ValueAt};
 
+use streams::words::word_at;
+use tents::tent::Bounds;
+
 // A part of the table, and its place.
 #[derive(Clone, Copy)]
 pub struct Tuple<'a> {
@@ -22,17 +25,8 @@ pub(crate) fn tuple_at<'a>(bytes: &'a [u8], at: usize, axes: u16) -> Tuple<'a>
     ensures { at + 2 * axes ≤ length bytes.now → (result.at ≡ at) × (result.part.now ≡ take (2 * axes) (drop at bytes.now)) }
 {
     let size = 2 * axes as usize;
-    if bytes.len() < size {
-        return Tuple {
-            part: &bytes[0..0],
-            at,
-        };
-    }
-    if bytes.len() - size < at {
-        return Tuple {
-            part: &bytes[0..0],
-            at,
-        };
+    if bytes.len() < size || bytes.len() - size < at {
+        return Tuple { part: &[], at };
     }
     Tuple {
         part: &bytes[at..at + size],
@@ -62,7 +56,8 @@ impl<'a> Tuple<'a> {
         if i >= self.part.len() / 2 {
             return None;
         }
-        Some(i16::from_be_bytes([self.part[2 * i], self.part[2 * i + 1]]))
+        let word = word_at(self.part, 2 * i)?;
+        Some(word.cast_signed())
     }
 }
 
@@ -70,12 +65,12 @@ impl<'a> Tuple<'a> {
 pub fn implied_start(peak: i16) -> i16
     ensures { result ≡ implied_start peak }
 {
-    if peak <= 0 { peak } else { 0 }
+    Bounds::implied(peak).min
 }
 
 // Its end.
 pub fn implied_end(peak: i16) -> i16
     ensures { result ≡ implied_end peak }
 {
-    if peak <= 0 { 0 } else { peak }
+    Bounds::implied(peak).max
 }

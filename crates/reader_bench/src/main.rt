@@ -88,15 +88,11 @@ fn make_table(heap: Global) -> Result<Vec<u8>, AllocError> {
 
 // Adds the entries of a slot.
 fn walk_slot(tally: &mut Tally, slot: Slot<'_>) {
-    let mut walk = slot;
-    for _ in 0..slot.len() {
-        if let Some(entry) = walk.next() {
-            tally.entries = tally.entries.wrapping_add(1);
-            let mut moves = entry.moves();
-            while let Some(m) = moves.next() {
-                tally.moves = tally.moves.wrapping_add(1);
-                tally.sum = tally.sum.wrapping_add(m.x as i64).wrapping_sub(m.y as i64);
-            }
+    for entry in slot {
+        tally.entries = tally.entries.wrapping_add(1);
+        for m in entry.moves() {
+            tally.moves = tally.moves.wrapping_add(1);
+            tally.sum = tally.sum.wrapping_add(m.x as i64).wrapping_sub(m.y as i64);
         }
     }
 }

@@ -6,7 +6,7 @@ use Rattle.std.proofs.lemmas.List.{drop_more, drop-drop}
 use Rattle.format.specs.Account.{Declined, first_of}
 use Rattle.format.specs.Bytes.{pair, signed16}
 use Rattle.format.specs.Streams.{Rest, rest, Read, found, fault, and_then, read_words}
-use Rattle.format.specs.Reader.{tuples, Header, header_of, header_rest, read_header, read_headers, peak_conditions, at_entry}
+use Rattle.format.specs.Reader.{word_at, tuples, Header, header_of, header_rest, read_header, read_headers, peak_conditions, at_entry}
 use Rattle.slots.specs.declared.headers.Head.{Head}
 use Rattle.streams.specs.Ahead.{one_more}
 use Rattle.slots.proofs.Prefix.{prefixed}
@@ -29,6 +29,12 @@ module _ {X : Type 0} (f : ℕ → X) where
   words_short (suc n) [] h = refl
   words_short (suc n) (a ∷ []) h = refl
   words_short (suc n) (a ∷ (b ∷ bs)) h = rw (words_short n bs (omega arith))
+
+-- the word after the one at a place
+pub next_word : (bs : List ℕ) (at w : ℕ) → w ≡ word_at bs (at + 2) → w ≡ pair (get_or bs (at + 2) 0) (get_or bs (at + 3) 0)
+next_word bs at w e =
+    let t : at + 2 + 1 ≡ at + 3 = omega arith in
+    e ∙ ap (λ k. pair (get_or bs (at + 2) 0) (get_or bs k 0)) t
 
 four_short : (a at : ℕ) (bs : List ℕ) → length bs < 4 → read_header a bs at ≡ none
 four_short a at [] h = refl

@@ -1,5 +1,5 @@
 -- The parts of a slot, one after another.
-use Rattle.std.proofs.Common.{◌≡◌, ℕ, zero, suc, ◌+◌, ◌-◌, ◌%◌, ◌<◌, ◌≤◌, Bool, true, false, cond, not, ◌||◌, eqb, ltb, leb, List, [], ◌∷◌, ◌++◌, length, get_or, drop, Ok, Err, Result, sym, refl, ap, ◌∙◌, arith, length-drop}
+use Rattle.std.proofs.Common.{◌≡◌, ℕ, zero, suc, ◌+◌, ◌-◌, ◌%◌, ◌<◌, ◌≤◌, Bool, true, false, cond, not, ◌||◌, eqb, ltb, leb, List, [], ◌∷◌, ◌++◌, length, get_or, drop, None, Ok, Err, Result, sym, refl, ap, ◌∙◌, arith, length-drop}
 use mathlib.Core.Option.{Option, none, some}
 use Rattle.std.proofs.lemmas.Bool.{cond-true, cond-false, ne_eqb}
 use Rattle.std.proofs.lemmas.List.{drop_more, drop_all, drop-drop}
@@ -10,7 +10,8 @@ use Rattle.format.specs.Streams.{Rest, rest, Read, found, fault, and_then}
 use Rattle.format.specs.Reader.{unless, Header, Entry, Checked, at_slot, at_end, peak_conditions, read_shared, read_headers, read_entries, read_store, read_bytes_of_slot}
 use Rattle.slots.specs.declared.slot.SlotStart.{SlotStart}
 use Rattle.slots.specs.Entries.{own_or_shared}
-use Rattle.slots.specs.Slots.{bad_end, SlotRead, CheckedAs}
+use Rattle.std.specs.Bool.{then_some}
+use Rattle.slots.specs.Slots.{bad_end, shared_read, SlotRead, CheckedAs}
 use Rattle.slots.specs.declared.fault.SlotFault.{SlotFault}
 use Rattle.format.proofs.Lists.{length_listed}
 use Rattle.slots.proofs.HeadSteps.{four_bytes}
@@ -186,7 +187,7 @@ recheck bs a peaks p old new (Ok s) e k =
     }
 recheck bs a peaks p old new (Err f) e k = λ c g ea ek. e c g ∙ k c g ea ek
 
-pub empty_slot : (bs : List ℕ) (at a peaks p : ℕ) → length bs - at ≡ 0 → SlotRead bs a peaks p (λ c g. read_bytes_of_slot c g p (drop at bs) at) (record { count = 0; header = at; body = at; shared = p; points = at; listed = false })
+pub empty_slot : (bs : List ℕ) (at a peaks p : ℕ) → length bs - at ≡ 0 → SlotRead bs a peaks p (λ c g. read_bytes_of_slot c g p (drop at bs) at) (record { count = 0; header = at; body = at; shared = p; points = None })
 empty_slot bs at a peaks p h =
     record {
       set = every;
@@ -199,3 +200,12 @@ empty_slot bs at a peaks p h =
       peaks_there = λ g. refl;
       entries_read = λ c g ea ek. ([], drop at bs, at, refl, slot_empty c g p bs at h);
     }
+
+-- the shared points, listed or every point
+pub listed_is : (bs : List ℕ) (p body past : ℕ) (b : Bool) (set : Points) → ((d : ℕ → ℕ → Declined) → own_or_shared d p every b (drop body bs) body ≡ found (rest set (drop past bs) past)) →
+    (d : ℕ → ℕ → Declined) → shared_read d p bs (then_some b body) past ≡ found (rest set (drop past bs) past)
+listed_is bs p body past true set h d = h d
+listed_is bs p body past false set h d =
+    let e : found (rest every (drop body bs) body) ≡ found (rest set (drop past bs) past) = h d in
+    let q : rest every (drop body bs) body ≡ rest set (drop past bs) past = cc in
+    ap (λ s. found (rest s (drop past bs) past)) (ap (λ t. t.value) q)

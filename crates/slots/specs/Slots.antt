@@ -1,14 +1,13 @@
 -- What a slot holds, by places in the table.
-use Rattle.std.specs.Prelude.{◌≡◌, ℕ, zero, suc, Bool, true, false, List, [], ◌∷◌, length, drop, Ok, Err, Result}
+use Rattle.std.specs.Prelude.{◌≡◌, ℕ, zero, suc, Bool, true, false, List, [], ◌∷◌, length, drop, Some, None, Ok, Err, Option as Maybe, Result}
 use Rattle.std.proofs.Math.Option.{none}
 use Rattle.format.specs.Account.{Declined, first_of}
 use Rattle.format.specs.Packed.{Points, every}
-use Rattle.format.specs.Streams.{rest, Read, found, fault}
+use Rattle.format.specs.Streams.{Rest, rest, Read, found, fault, read_points}
 use Rattle.format.specs.Reader.{Header, Entry, Checked, points_of, peak_conditions, read_headers, read_entries, read_store, read_bytes_of_slot}
 use Rattle.slots.specs.declared.fault.SlotFault.{SlotFault}
 use Rattle.slots.specs.declared.slot.SlotStart.{SlotStart}
 use Rattle.slots.specs.Faults.{slot_declined}
-use Rattle.slots.specs.Entries.{own_or_shared}
 
 -- after the last entry, more than one byte, or one that is not 0
 abbrev pub bad_end : List ℕ → Bool
@@ -17,11 +16,16 @@ bad_end (zero ∷ []) = false
 bad_end (suc b ∷ []) = true
 bad_end (b ∷ (b' ∷ bs)) = true
 
+-- the shared points: those listed at a place, or every point in front of the data
+abbrev pub shared_read : (ℕ → ℕ → Declined) → ℕ → List ℕ → Maybe ℕ → ℕ → Read (Rest Points)
+shared_read d p bs None body = found (rest every (drop body bs) body)
+shared_read d p bs (Some at) body = read_points d p (drop at bs) at
+
 -- a slot with these shared points and headers is read, each shared peak is there, and the entries are the answer
 pub record SlotRead (bs : List ℕ) (a peaks p : ℕ) (answer : Checked → ℕ → Read (List Entry)) (s : SlotStart) : Type 0 where
   pub set : Points
   pub number : length (points_of p set) ≡ s.shared
-  pub set_read : (d : ℕ → ℕ → Declined) → own_or_shared d p every s.listed (drop s.points bs) s.points ≡ found (rest set (drop s.body bs) s.body)
+  pub set_read : (d : ℕ → ℕ → Declined) → shared_read d p bs s.points s.body ≡ found (rest set (drop s.body bs) s.body)
   pub headers : List Header
   pub left : List ℕ
   pub past : ℕ

@@ -6,6 +6,8 @@ ghost use Rattle.slots.specs.Faults.{said, entry_declined, slot_declined};
 ghost use Rattle.slots.specs.declared.fault.EntryFault.TheVariants.{Stream};
 ghost use Rattle.slots.specs.declared.fault.SlotFault.TheVariants.{Shared};
 
+use std::error::Error;
+use std::fmt;
 use streams::fault::StreamFault;
 
 // A fault in the data of an entry: of one of its streams, or bytes that are left over.
@@ -69,14 +71,14 @@ impl SlotFault {
         ensures { (g : ℕ) → result ≡ (slot_declined g self).number }
     {
         match self {
-            SlotFault::Short(_) => 21,
-            SlotFault::NoHeader(_, _) => 21,
-            SlotFault::NoPeak(_, _) => 21,
-            SlotFault::Offset(_) => 21,
-            SlotFault::NoData(_, _) => 21,
             SlotFault::Shared(f) => f.number(),
             SlotFault::InEntry(_, f) => f.number(),
             SlotFault::Tail(_) => 25,
+            SlotFault::Short(_)
+            | SlotFault::NoHeader(_, _)
+            | SlotFault::NoPeak(_, _)
+            | SlotFault::Offset(_)
+            | SlotFault::NoData(_, _) => 21,
         }
     }
 
@@ -85,14 +87,14 @@ impl SlotFault {
         ensures { (g : ℕ) → said result ≡ (slot_declined g self).variation }
     {
         match self {
-            SlotFault::Short(_) => None,
-            SlotFault::NoHeader(i, _) => Some(i),
-            SlotFault::NoPeak(i, _) => Some(i),
-            SlotFault::Offset(_) => None,
-            SlotFault::NoData(i, _) => Some(i),
-            SlotFault::Shared(_) => None,
-            SlotFault::InEntry(i, _) => Some(i),
-            SlotFault::Tail(_) => None,
+            SlotFault::Short(_)
+            | SlotFault::Offset(_)
+            | SlotFault::Shared(_)
+            | SlotFault::Tail(_) => None,
+            SlotFault::NoHeader(i, _)
+            | SlotFault::NoPeak(i, _)
+            | SlotFault::NoData(i, _)
+            | SlotFault::InEntry(i, _) => Some(i),
         }
     }
 
@@ -100,14 +102,40 @@ impl SlotFault {
         ensures { (g : ℕ) → some result ≡ (slot_declined g self).place }
     {
         match self {
-            SlotFault::Short(at) => at,
-            SlotFault::NoHeader(_, at) => at,
-            SlotFault::NoPeak(_, at) => at,
-            SlotFault::Offset(at) => at,
-            SlotFault::NoData(_, at) => at,
             SlotFault::Shared(f) => f.place(),
             SlotFault::InEntry(_, f) => f.place(),
-            SlotFault::Tail(at) => at,
+            SlotFault::Short(at)
+            | SlotFault::NoHeader(_, at)
+            | SlotFault::NoPeak(_, at)
+            | SlotFault::Offset(at)
+            | SlotFault::NoData(_, at)
+            | SlotFault::Tail(at) => at,
         }
     }
 }
+
+// Number and place.
+impl fmt::Display for EntryFault {
+    fn fmt<W: fmt::Write>(&self, f: &mut fmt::Formatter<W>) -> fmt::Result {
+        let number = self.number();
+        let place = self.place();
+        write!(f, "refused {number} entry place {place}")
+    }
+}
+
+impl Error for EntryFault {}
+
+// Number, variation, if one is concerned, and place.
+impl fmt::Display for SlotFault {
+    fn fmt<W: fmt::Write>(&self, f: &mut fmt::Formatter<W>) -> fmt::Result {
+        let number = self.number();
+        let place = self.place();
+        write!(f, "refused {number} slot")?;
+        if let Some(variation) = self.variation() {
+            write!(f, " variation {variation}")?;
+        }
+        write!(f, " place {place}")
+    }
+}
+
+impl Error for SlotFault {}

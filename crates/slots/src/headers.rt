@@ -3,7 +3,9 @@ ghost use Rattle.std.specs.Prelude.{◌≡◌};
 ghost use Rattle.format.specs.Reader.{is_embedded, is_regional, is_private, peak_index};
 ghost use Rattle.slots.specs.Heads.{tuple_words, no_peak, HeadFound, HeadsPast, PeaksChecked};
 
+use crate::bytes::SlotBytes;
 use crate::fault::SlotFault;
+use streams::words::word_at;
 
 const EMBEDDED_PEAK: u16 = 0x8000;
 
@@ -62,46 +64,6 @@ pub fn tuple_words(axes: u16, index: u16) -> u32
     peak + region
 }
 
-// The header at the place `at`, unless it goes past the end.
-pub(crate) fn read_header(table: &[u8], at: usize, axes: u16) -> Option<Head>
-    ensures { HeadFound table.now at axes result }
-{
-    let have = table.len().saturating_sub(at);
-    if have < 4 {
-        return None;
-    }
-    let size = u16::from_be_bytes([table[at], table[at + 1]]);
-    let index = u16::from_be_bytes([table[at + 2], table[at + 3]]);
-    let words = tuple_words(axes, index);
-    if have - 4 < 2 * words as usize {
-        return None;
-    }
-    Some(Head {
-        size,
-        index,
-        past: at + 4 + 2 * words as usize,
-    })
-}
-
-// The place past `count` headers.
-pub(crate) fn past_headers(
-    table: &[u8],
-    at: usize,
-    axes: u16,
-    count: u16,
-) -> Result<usize, SlotFault>
-    ensures { HeadsPast table.now at axes count result }
-{
-    let mut place = at;
-    for i in 0..count {
-        let Some(h) = read_header(table, place, axes) else {
-            return Err(SlotFault::NoHeader(i, place));
-        };
-        place = h.past;
-    }
-    Ok(place)
-}
-
 // Does a header with this index word ask for a shared peak that is not there?
 fn lacks_peak(index: u16, peaks: u16) -> bool
     ensures { result ≡ no_peak index peaks }
@@ -109,25 +71,52 @@ fn lacks_peak(index: u16, peaks: u16) -> bool
     !is_embedded(index) && peak_index(index) >= peaks
 }
 
-// Is there a shared peak for each header that asks for one?
-pub(crate) fn check_peaks(
-    table: &[u8],
-    at: usize,
-    axes: u16,
-    count: u16,
-    peaks: u16,
-) -> Result<(), SlotFault>
-    ensures { PeaksChecked table.now at axes count peaks result }
-{
-    let mut place = at;
-    for i in 0..count {
-        let Some(h) = read_header(table, place, axes) else {
-            return Ok(());
-        };
-        if lacks_peak(h.index, peaks) {
-            return Err(SlotFault::NoPeak(i, place));
+impl<'a> SlotBytes<'a> {
+    // The header at the place `at`, unless it goes past the end.
+    pub(crate) fn header_at(&self, at: usize) -> Option<Head>
+        ensures { HeadFound self.now.table.now at self.now.axes result }
+    {
+        let size = word_at(self.table, at)?;
+        let index = word_at(self.table, at + 2)?;
+        let tuples = 2 * tuple_words(self.axes, index) as usize;
+        if self.table.len() - (at + 4) < tuples {
+            return None;
         }
-        place = h.past;
+        Some(Head {
+            size,
+            index,
+            past: at + 4 + tuples,
+        })
     }
-    Ok(())
+
+    // The place past `count` headers.
+    pub(crate) fn past_headers(&self, at: usize, count: u16) -> Result<usize, SlotFault>
+        ensures { HeadsPast self.now.table.now at self.now.axes count result }
+    {
+        let mut place = at;
+        for i in 0..count {
+            let Some(h) = self.header_at(place) else {
+                return Err(SlotFault::NoHeader(i, place));
+            };
+            place = h.past;
+        }
+        Ok(place)
+    }
+
+    // Is there a shared peak for each header that asks for one?
+    pub(crate) fn check_peaks(&self, at: usize, count: u16) -> Result<(), SlotFault>
+        ensures { PeaksChecked self.now.table.now at self.now.axes count self.now.peaks result }
+    {
+        let mut place = at;
+        for i in 0..count {
+            let Some(h) = self.header_at(place) else {
+                return Ok(());
+            };
+            if lacks_peak(h.index, self.peaks) {
+                return Err(SlotFault::NoPeak(i, place));
+            }
+            place = h.past;
+        }
+        Ok(())
+    }
 }

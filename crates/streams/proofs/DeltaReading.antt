@@ -1,5 +1,5 @@
 -- A cursor over deltas has ahead what the format reads.
-use Rattle.std.proofs.Common.{◌≡◌, ℕ, zero, suc, ◌+◌, ◌-◌, ◌*◌, ◌%◌, ltb, List, [], ◌∷◌, ◌++◌, drop, replicate, ℤ, pos, Ok, Err, sym, refl, ap, ◌∙◌, subst, add-zero, arith}
+use Rattle.std.proofs.Common.{◌≡◌, ℕ, zero, suc, ◌+◌, ◌-◌, ◌*◌, ◌%◌, Bool, true, false, cond, ltb, leb, List, [], ◌∷◌, ◌++◌, drop, replicate, ℤ, pos, Some, None, Ok, Err, Result, sym, refl, ap, ◌∙◌, subst, add-zero, arith}
 use mathlib.Core.Option.{Option, none, some}
 use Rattle.format.specs.Account.{Declined}
 use Rattle.format.specs.Bytes.{pair, signed8, signed16}
@@ -7,11 +7,21 @@ use Rattle.format.specs.Packed.{Kind, zeros, bytes, words}
 use Rattle.format.specs.Streams.{Rest, rest, Read, found, fault, fault_if, and_then, cons_to, read_bytes, read_words, read_values, run_kind, held, delta_run, kind_run, delta_runs, read_deltas}
 use Rattle.streams.specs.declared.fault.StreamFault.TheVariants.{Deltas}
 use Rattle.streams.specs.declared.fault.StreamFault.{StreamFault}
-use Rattle.streams.specs.Ahead.{Ahead, ends, fails, give_all, one_more, read_ahead}
-use Rattle.streams.specs.Deltas.{value_ahead, run_ahead, kind_ahead, control_ahead, runs_ahead, deltas_from, PastDeltas}
+use Rattle.streams.specs.declared.deltas.DeltaKind.{DeltaKind}
+use Rattle.streams.specs.declared.deltas.DeltaKind.TheVariants.{Zeros, Bytes, Words}
+use Rattle.streams.specs.declared.deltas.DeltaPacking.{DeltaPacking}
+use Rattle.streams.specs.Ahead.{Ahead, ends, give_all, one_more, read_ahead}
+use Rattle.streams.specs.Runs.{value_ahead, run_ahead, begun_ahead, control_ahead, runs_ahead, PastRuns}
+use Rattle.streams.specs.Deltas.{run_in, delta_in, delta_form, deltas_from, DeltaCursor, deltas_ahead, PastDeltas}
 use Rattle.streams.proofs.Steps.{Exactly, exact_length}
 use Rattle.streams.proofs.Readings.{read_all, read_none, read_if, push, whole, after_byte, after_word}
-use Rattle.streams.proofs.DeltaSteps.{exact_deltas}
+use Rattle.streams.proofs.RunSteps.{exact_stream}
+
+-- the format's kind of a run, from the code's
+abbrev kind_of : DeltaKind → Kind
+kind_of Zeros = zeros
+kind_of Bytes = bytes
+kind_of Words = words
 
 module _ (d : ℕ → ℕ → Declined) (bs : List ℕ) where
   -- the values of a run with its control at `control`, and what is read from the place past it
@@ -23,76 +33,94 @@ module _ (d : ℕ → ℕ → Declined) (bs : List ℕ) where
   run_is at none follow size = refl
   run_is at (some r) follow size = refl
 
-  module _ (control : ℕ) (more : ℕ → Ahead ℤ) (follow : List ℕ → ℕ → Read (Rest (List ℤ))) (h : (past : ℕ) → read_ahead d bs (more past) ≡ follow (drop past bs) past) where
+  module _ (control : ℕ) (more : DeltaPacking → ℕ → Ahead ℤ) (follow : List ℕ → ℕ → Read (Rest (List ℤ))) (h : (q : DeltaPacking) (past : ℕ) → read_ahead d bs (more q past) ≡ follow (drop past bs) past) where
     from_cons : (x : ℤ) (o : Option (List ℤ × List ℕ)) (past : ℕ) → from_run control (cons_to x o) follow past ≡ one_more x (from_run control o follow past)
     from_cons x none past = refl
     from_cons x (some r) past = push x r.0 (follow r.1 past)
 
-    run_zeros : (n at : ℕ) → read_ahead d bs (run_ahead bs zeros control n at more) ≡ from_run control (read_values zeros n (drop at bs)) follow at
-    run_zeros zero at = h at ∙ sym (whole (follow (drop at bs) at))
-    run_zeros (suc n) at = rw (add-zero at) (ap (one_more (pos 0)) (run_zeros n at) ∙ sym (push (pos 0) (replicate n (pos 0)) (follow (drop at bs) at)))
+    run_zeros : (q : DeltaPacking) (n at : ℕ) → read_ahead d bs (run_ahead delta_form bs Zeros control n q at more) ≡ from_run control (read_values zeros n (drop at bs)) follow at
+    run_zeros q zero at = h q at ∙ sym (whole (follow (drop at bs) at))
+    run_zeros q (suc n) at = ap (one_more (pos 0)) (run_zeros q n at) ∙ sym (push (pos 0) (replicate n (pos 0)) (follow (drop at bs) at))
 
-    run_bytes : (n at : ℕ) → read_ahead d bs (run_ahead bs bytes control n at more) ≡ from_run control (read_bytes signed8 n (drop at bs)) follow (at + n)
-    run_bytes zero at = rw add-zero (h at ∙ sym (whole (follow (drop at bs) at)))
-    run_bytes (suc n) at = by (drop at bs) refl (run_bytes n (at + 1))
+    run_bytes : (q : DeltaPacking) (n at : ℕ) → read_ahead d bs (run_ahead delta_form bs Bytes control n q at more) ≡ from_run control (read_bytes signed8 n (drop at bs)) follow (at + n)
+    run_bytes q zero at = rw add-zero (h q at ∙ sym (whole (follow (drop at bs) at)))
+    run_bytes q (suc n) at = by (drop at bs) refl (run_bytes q n (at + 1))
       where
-        by : (l : List ℕ) → drop at bs ≡ l → read_ahead d bs (run_ahead bs bytes control n (at + 1) more) ≡ from_run control (read_bytes signed8 n (drop (at + 1) bs)) follow (at + 1 + n) →
-            read_ahead d bs (value_ahead control (read_bytes signed8 1 l) (run_ahead bs bytes control n (at + 1) more)) ≡ from_run control (read_bytes signed8 (suc n) l) follow (at + suc n)
+        by : (l : List ℕ) → drop at bs ≡ l → read_ahead d bs (run_ahead delta_form bs Bytes control n q (at + 1) more) ≡ from_run control (read_bytes signed8 n (drop (at + 1) bs)) follow (at + 1 + n) →
+            read_ahead d bs (value_ahead delta_form bs control (delta_in q Bytes l at) (λ q past. run_ahead delta_form bs Bytes control n q past more)) ≡ from_run control (read_bytes signed8 (suc n) l) follow (at + suc n)
         by [] e i = refl
         by (b ∷ r) e i =
             let f : at + suc n ≡ at + 1 + n = omega arith in
             rw (f, ← after_byte bs at b r e) (ap (one_more (signed8 b)) i ∙ sym (from_cons (signed8 b) (read_bytes signed8 n (drop (at + 1) bs)) (at + 1 + n)))
 
-    run_words : (n at : ℕ) → read_ahead d bs (run_ahead bs words control n at more) ≡ from_run control (read_words signed16 n (drop at bs)) follow (at + 2 * n)
-    run_words zero at = rw add-zero (h at ∙ sym (whole (follow (drop at bs) at)))
-    run_words (suc n) at = by (drop at bs) refl (run_words n (at + 2))
+    run_words : (q : DeltaPacking) (n at : ℕ) → read_ahead d bs (run_ahead delta_form bs Words control n q at more) ≡ from_run control (read_words signed16 n (drop at bs)) follow (at + 2 * n)
+    run_words q zero at = rw add-zero (h q at ∙ sym (whole (follow (drop at bs) at)))
+    run_words q (suc n) at = by (drop at bs) refl (run_words q n (at + 2))
       where
-        by : (l : List ℕ) → drop at bs ≡ l → read_ahead d bs (run_ahead bs words control n (at + 2) more) ≡ from_run control (read_words signed16 n (drop (at + 2) bs)) follow (at + 2 + 2 * n) →
-            read_ahead d bs (value_ahead control (read_words signed16 1 l) (run_ahead bs words control n (at + 2) more)) ≡ from_run control (read_words signed16 (suc n) l) follow (at + 2 * suc n)
+        by : (l : List ℕ) → drop at bs ≡ l → read_ahead d bs (run_ahead delta_form bs Words control n q (at + 2) more) ≡ from_run control (read_words signed16 n (drop (at + 2) bs)) follow (at + 2 + 2 * n) →
+            read_ahead d bs (value_ahead delta_form bs control (delta_in q Words l at) (λ q past. run_ahead delta_form bs Words control n q past more)) ≡ from_run control (read_words signed16 (suc n) l) follow (at + 2 * suc n)
         by [] e i = refl
         by (b ∷ []) e i = refl
         by (b ∷ (b' ∷ r)) e i =
             let f : at + 2 * suc n ≡ at + 2 + 2 * n = omega arith in
             rw (f, ← after_word bs at b b' r e) (ap (one_more (signed16 (pair b b'))) i ∙ sym (from_cons (signed16 (pair b b')) (read_words signed16 n (drop (at + 2) bs)) (at + 2 + 2 * n)))
 
-    run_read : (k : Kind) (n at : ℕ) → read_ahead d bs (run_ahead bs k control n at more) ≡ from_run control (read_values k n (drop at bs)) follow (at + held k n)
-    run_read zeros n at = rw (add-zero at) (run_zeros n at)
-    run_read bytes n at = run_bytes n at
-    run_read words n at = run_words n at
+    run_read : (k : DeltaKind) (q : DeltaPacking) (n at : ℕ) → read_ahead d bs (run_ahead delta_form bs k control n q at more) ≡ from_run control (read_values (kind_of k) n (drop at bs)) follow (at + held (kind_of k) n)
+    run_read Zeros q n at = rw (add-zero at) (run_zeros q n at)
+    run_read Bytes q n at = run_bytes q n at
+    run_read Words q n at = run_words q n at
 
-  kind_read : (o : Option Kind) (at n : ℕ) (more : ℕ → Ahead ℤ) (follow : List ℕ → ℕ → Read (Rest (List ℤ))) → ((past : ℕ) → read_ahead d bs (more past) ≡ follow (drop past bs) past) →
-      read_ahead d bs (kind_ahead bs o at n more) ≡ kind_run d at n (drop (at + 1) bs) o follow
-  kind_read none at n more follow h = refl
-  kind_read (some k) at n more follow h =
-      let f : at + 1 + held k n ≡ at + (1 + held k n) = omega arith in
-      (rw f at (run_read at more follow h k n (at + 1))) ∙ sym (run_is at (read_values k n (drop (at + 1) bs)) follow (1 + held k n))
+  -- a run by its control
+  module _ (at k : ℕ) (q : DeltaPacking) (more : ℕ → DeltaPacking → ℕ → Ahead ℤ) (follow : List ℕ → ℕ → Read (Rest (List ℤ)))
+      (c : ℕ) (h : (q : DeltaPacking) (past : ℕ) → read_ahead d bs (more (c % 64) q past) ≡ follow (drop past bs) past) where
+    some_read : (k' : DeltaKind) → read_ahead d bs (begun_ahead delta_form bs (Some (k', c % 64)) at k q more)
+        ≡ fault_if (ltb k (suc (c % 64))) (d 23 at) (kind_run d at (suc (c % 64)) (drop (at + 1) bs) (some (kind_of k')) follow)
+    some_read k' =
+        let n = suc (c % 64) in
+        let f : at + 1 + held (kind_of k') n ≡ at + (1 + held (kind_of k') n) = omega arith in
+        read_if d bs (ltb k n) (Deltas at) (run_ahead delta_form bs k' at n q (at + 1) (more (c % 64)))
+        ∙ ap (fault_if (ltb k n) (d 23 at)) ((rw f at (run_read at (more (c % 64)) follow h k' q n (at + 1))) ∙ sym (run_is at (read_values (kind_of k') n (drop (at + 1) bs)) follow (1 + held (kind_of k') n)))
 
-  runs_read : (m k at : ℕ) → read_ahead d bs (runs_ahead bs m k at) ≡ delta_runs d m k (drop at bs) at
-  runs_read zero k at = refl
-  runs_read (suc m) zero at = refl
-  runs_read (suc m) (suc k) at = by (drop at bs) refl (λ n past. runs_read m (k - n) past)
+    none_read : fault (d 23 at) ≡ fault_if (ltb k (suc (c % 64))) (d 23 at) (kind_run d at (suc (c % 64)) (drop (at + 1) bs) none follow)
+    none_read = by (ltb k (suc (c % 64)))
+      where
+        by : (b : Bool) → fault (d 23 at) ≡ fault_if b (d 23 at) (kind_run d at (suc (c % 64)) (drop (at + 1) bs) none follow)
+        by true = refl
+        by false = refl
+
+    begun_read : read_ahead d bs (begun_ahead delta_form bs (run_in c) at k q more) ≡ fault_if (ltb k (suc (c % 64))) (d 23 at) (kind_run d at (suc (c % 64)) (drop (at + 1) bs) (run_kind c) follow)
+    begun_read = by (leb 192 c) (leb 128 c) (leb 64 c)
+      where
+        by : (x y z : Bool) → read_ahead d bs (begun_ahead delta_form bs (cond x None (Some (cond y Zeros (cond z Words Bytes), c % 64))) at k q more)
+            ≡ fault_if (ltb k (suc (c % 64))) (d 23 at) (kind_run d at (suc (c % 64)) (drop (at + 1) bs) (cond x none (some (cond y zeros (cond z words bytes)))) follow)
+        by true y z = none_read
+        by false true z = some_read Zeros
+        by false false true = some_read Words
+        by false false false = some_read Bytes
+
+  runs_read : (m k : ℕ) (q : DeltaPacking) (at : ℕ) → read_ahead d bs (runs_ahead delta_form bs m k q at) ≡ delta_runs d m k (drop at bs) at
+  runs_read zero k q at = refl
+  runs_read (suc m) zero q at = refl
+  runs_read (suc m) (suc k) q at = by (drop at bs) refl (λ n q past. runs_read m (k - n) q past)
     where
-      by : (l : List ℕ) → drop at bs ≡ l → ((n past : ℕ) → read_ahead d bs (runs_ahead bs m (k - n) past) ≡ delta_runs d m (k - n) (drop past bs) past) →
-          read_ahead d bs (control_ahead bs l at (suc k) (λ n past. runs_ahead bs m (k - n) past)) ≡ delta_runs d (suc m) (suc k) l at
+      by : (l : List ℕ) → drop at bs ≡ l → ((n : ℕ) (q : DeltaPacking) (past : ℕ) → read_ahead d bs (runs_ahead delta_form bs m (k - n) q past) ≡ delta_runs d m (k - n) (drop past bs) past) →
+          read_ahead d bs (control_ahead delta_form bs l at (suc k) q (λ n q past. runs_ahead delta_form bs m (k - n) q past)) ≡ delta_runs d (suc m) (suc k) l at
       by [] e i = refl
       by (c ∷ r) e i =
           let n = c % 64 in
           let s : suc k - suc n ≡ k - n = omega arith in
           rw (s, ← after_byte bs at c r e)
-          (read_if d bs (ltb (suc k) (suc n)) (Deltas at) (kind_ahead bs (run_kind c) at (suc n) (λ past. runs_ahead bs m (k - n) past))
-          ∙ ap (fault_if (ltb (suc k) (suc n)) (d 23 at)) (kind_read (run_kind c) at (suc n) (λ past. runs_ahead bs m (k - n) past) (λ b a. delta_runs d m (k - n) b a) (i n)))
+          (begun_read at (suc k) q (λ n q past. runs_ahead delta_form bs m (k - n) q past) (λ b a. delta_runs d m (k - n) b a) c (i n))
 
   pub deltas_read : (k at : ℕ) → read_ahead d bs (deltas_from bs k at) ≡ read_deltas d k (drop at bs) at
-  deltas_read k at = runs_read k k at
+  deltas_read k at = runs_read k k (record {}) at
 
 -- the place past a stream that ends, and the fault of one that does not
-pub past_ends : (bs : List ℕ) (at k : ℕ) (vs : List ℤ) (past place : ℕ) → deltas_from bs k at ≡ give_all vs (ends past) → place ≡ past → PastDeltas bs at k (Ok place)
-past_ends bs at k vs past place e p =
-    rw p (
-      vs,
-      (λ d. sym (deltas_read d bs k at) ∙ ap (read_ahead d bs) e ∙ read_all d bs vs past),
-      exact_length vs past k (subst (λ (a : Ahead ℤ). Exactly a k) e (exact_deltas bs k at)),
+pub past_is : (bs : List ℕ) (at k : ℕ) (c : DeltaCursor) (r : Result ℕ StreamFault) → deltas_ahead c ≡ deltas_from bs k at → PastRuns delta_form c r → PastDeltas bs at k r
+past_is bs at k c (Ok past) a p =
+    let e : deltas_from bs k at ≡ give_all p.0 (ends past) = sym a ∙ p.1 in (
+      p.0,
+      (λ d. sym (deltas_read d bs k at) ∙ ap (read_ahead d bs) e ∙ read_all d bs p.0 past),
+      exact_length p.0 past k (subst (λ (a : Ahead ℤ). Exactly a k) e (exact_stream delta_form bs k (record {}) at)),
     )
-
-pub past_fails : (bs : List ℕ) (at k : ℕ) (vs : List ℤ) (f : StreamFault) → deltas_from bs k at ≡ give_all vs (fails f) → PastDeltas bs at k (Err f)
-past_fails bs at k vs f e d = sym (deltas_read d bs k at) ∙ ap (read_ahead d bs) e ∙ read_none d bs vs f
+past_is bs at k c (Err f) a p = λ d. sym (deltas_read d bs k at) ∙ ap (read_ahead d bs) (sym a ∙ p.1) ∙ read_none d bs p.0 f

@@ -1,8 +1,8 @@
 pub mod Signs
 pub mod Steps
 pub mod Readings
-pub mod DeltaSteps
+pub mod Shorts
+pub mod RunSteps
 pub mod DeltaReading
-pub mod PointSteps
 pub mod PointReading
 pub mod PointCounts

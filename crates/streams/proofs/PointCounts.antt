@@ -8,7 +8,7 @@ use Rattle.format.specs.Glyphs.{listed}
 use Rattle.format.specs.Packed.{every, only}
 use Rattle.format.specs.Streams.{rest, found, fault_if, and_then, counted_points, long_count, read_points}
 use Rattle.streams.specs.declared.fault.StreamFault.TheVariants.{Points}
-use Rattle.streams.specs.Points.{counted, two_byte_count, count_in, by_count, after_count, PastRuns, SetRead}
+use Rattle.streams.specs.Points.{counted, two_byte_count, count_in, by_count, after_count, PastPointRuns, SetRead}
 use Rattle.streams.proofs.Readings.{after_byte, after_word}
 
 -- the count by the code's tests
@@ -83,7 +83,7 @@ module _ (bs : List ℕ) (at p n past : ℕ) (h : (d : ℕ → ℕ → Declined)
   pub set_every : n ≡ 0 → SetRead bs at p (record { size = p; past = past })
   set_every z = record { set = every; is_read = λ d. h d p ∙ (rw z); number = length_listed 0 p (λ i. i) }
 
-  pub set_only : (end : ℕ) → 0 < n → PastRuns bs past p n (Ok end) → SetRead bs at p (record { size = n; past = end })
+  pub set_only : (end : ℕ) → 0 < n → PastPointRuns bs past p n (Ok end) → SetRead bs at p (record { size = n; past = end })
   set_only end z r =
       record {
         set = only r.0;

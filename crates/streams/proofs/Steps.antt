@@ -1,5 +1,5 @@
 -- What an answer says of what was ahead, and how many values a stream gives.
-use Rattle.std.proofs.Common.{◌≡◌, ℕ, zero, suc, Bool, true, false, List, [], ◌∷◌, ◌++◌, length, Some, None, Ok, Err, Option as Maybe, sym, refl, ap, subst, arith}
+use Rattle.std.proofs.Common.{◌≡◌, ℕ, zero, suc, Bool, true, false, List, [], ◌∷◌, ◌++◌, length, Some, None, Ok, is_some, Option as Maybe, sym, refl, ap, subst, arith}
 use Rattle.streams.specs.declared.fault.StreamFault.{StreamFault}
 use Rattle.streams.specs.Ahead.{Ahead, ends, fails, gives, answer_of, rest_of, give_all, fails_if}
 
@@ -11,22 +11,11 @@ module _ {X : Type 0} where
   how_many (gives x a) = suc (how_many a)
 
   -- a value was answered
-  pub gave : (a a' : Ahead X) (o : Maybe X) (x : X) → o ≡ Some x → Ok o ≡ answer_of a → a' ≡ rest_of a → a ≡ gives x a'
-  gave (ends at) a' o x s e h = cc
-  gave (fails f) a' o x s e h = cc
-  gave (gives y a) a' o x s e h = cc
-
-  -- the end was answered
-  pub ended : (a a' : Ahead X) (o : Maybe X) → o ≡ None → Ok o ≡ answer_of a → a' ≡ rest_of a → (past : ℕ) × (a ≡ ends past) × (a' ≡ ends past)
-  ended (ends at) a' o s e h = (at, refl, h)
-  ended (fails f) a' o s e h = (0, cc, cc)
-  ended (gives y a) a' o s e h = (0, cc, cc)
-
-  -- a fault was answered
-  pub failed : (a : Ahead X) (f : StreamFault) → Err f ≡ answer_of a → a ≡ fails f
-  failed (ends at) f e = cc
-  failed (fails g) f e = cc
-  failed (gives y a) f e = cc
+  pub gave : (a a' : Ahead X) (o : Maybe X) → is_some o ≡ true → Ok o ≡ answer_of a → a' ≡ rest_of a → (x : X) × (a ≡ gives x a')
+  gave a a' None s e h = absurd cc
+  gave (ends at) a' (Some x) s e h = (x, cc)
+  gave (fails f) a' (Some x) s e h = (x, cc)
+  gave (gives y a) a' (Some x) s e h = (y, ap (gives y) (sym h))
 
   -- one value more was given
   pub give_more : (xs : List X) (x : X) (a : Ahead X) → give_all xs (gives x a) ≡ give_all (xs ++ (x ∷ [])) a

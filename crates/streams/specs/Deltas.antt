@@ -1,81 +1,54 @@
 -- What is ahead of a cursor over packed deltas.
-use Rattle.std.specs.Prelude.{◌≡◌, ℕ, zero, suc, ◌+◌, ◌-◌, ◌%◌, cond, List, [], ◌∷◌, length, drop, ℤ, Some, None, Ok, Err, Option as Maybe, Result, ◌==◌, nat_le, nat_lt}
-use Rattle.std.proofs.Math.Option.{Option, none, some}
+use Rattle.std.specs.Prelude.{◌≡◌, ℕ, ◌+◌, ◌%◌, cond, List, [], ◌∷◌, length, drop, ℤ, pos, Some, None, Ok, Err, Option as Maybe, Result, nat_le}
 use Rattle.format.specs.Account.{Declined}
-use Rattle.format.specs.Packed.{Kind, zeros, bytes, words}
-use Rattle.format.specs.Streams.{rest, found, fault, read_values, run_kind, held, read_deltas}
+use Rattle.format.specs.Bytes.{pair, signed8, signed16}
+use Rattle.format.specs.Streams.{rest, found, fault, read_deltas}
 use Rattle.streams.specs.declared.fault.StreamFault.{StreamFault}
 use Rattle.streams.specs.declared.fault.StreamFault.TheVariants.{Deltas}
-use Rattle.streams.specs.declared.deltas.RunKind.{RunKind}
-use Rattle.streams.specs.declared.deltas.RunKind.TheVariants.{OfZeros, OfBytes, OfWords}
-use Rattle.streams.specs.declared.deltas.DeltaState.{DeltaState}
-use Rattle.streams.specs.declared.deltas.DeltaState.TheVariants.{Between, Zeros, Bytes, Words, Done}
-use Rattle.streams.specs.declared.deltas.DeltaCursor.{DeltaCursor}
+use Rattle.streams.specs.declared.runs.RunCursor.{RunCursor}
+use Rattle.streams.specs.declared.runs.Unpacked.{Unpacked}
+use Rattle.streams.specs.declared.deltas.DeltaKind.{DeltaKind}
+use Rattle.streams.specs.declared.deltas.DeltaKind.TheVariants.{Zeros, Bytes, Words}
+use Rattle.streams.specs.declared.deltas.DeltaPacking.{DeltaPacking}
 use Rattle.streams.specs.Faults.{stream_declined}
-use Rattle.streams.specs.Ahead.{Ahead, ends, fails, answer_of, rest_of, give_all, fails_if}
+use Rattle.streams.specs.Ahead.{Ahead}
+use Rattle.streams.specs.Runs.{Form, stream_ahead, ahead, RunStep}
 
--- a value of the run with its control at `control`, if its bytes are there, and what comes after it
-abbrev pub value_ahead : ℕ → Option (List ℤ × List ℕ) → Ahead ℤ → Ahead ℤ
-value_ahead control none a = fails (Deltas control)
-value_ahead control (some r) a = give_all r.0 a
+-- the run that a control byte begins, and its values after the first; none where both bits are set
+abbrev pub run_in : ℕ → Maybe (DeltaKind × ℕ)
+run_in c = cond (nat_le 192 c) None (Some (cond (nat_le 128 c) Zeros (cond (nat_le 64 c) Words Bytes), c % 64))
 
-module _ (bs : List ℕ) where
-  -- n values of a run from a place of the table on, then what comes from the place past them
-  abbrev pub run_ahead : Kind → ℕ → ℕ → ℕ → (ℕ → Ahead ℤ) → Ahead ℤ
-  run_ahead k control zero at more = more at
-  run_ahead k control (suc n) at more = value_ahead control (read_values k 1 (drop at bs)) (run_ahead k control n (at + held k 1) more)
+-- a delta, and the place past it
+abbrev pub delta : DeltaPacking → ℤ → ℕ → Maybe (Unpacked ℤ DeltaPacking)
+delta q v past = Some (record { value = v; past = past; packing = q })
 
-  -- the run of a kind, if there is one, after its control
-  abbrev pub kind_ahead : Option Kind → ℕ → ℕ → (ℕ → Ahead ℤ) → Ahead ℤ
-  kind_ahead none at n more = fails (Deltas at)
-  kind_ahead (some k) at n more = run_ahead k at n (at + 1) more
+-- the delta of a run in front of the bytes, which are those from the place `at` on
+abbrev pub delta_in : DeltaPacking → DeltaKind → List ℕ → ℕ → Maybe (Unpacked ℤ DeltaPacking)
+delta_in q Zeros bs at = delta q (pos 0) at
+delta_in q Bytes [] at = None
+delta_in q Bytes (b ∷ bs) at = delta q (signed8 b) (at + 1)
+delta_in q Words [] at = None
+delta_in q Words (a ∷ []) at = None
+delta_in q Words (a ∷ (b ∷ bs)) at = delta q (signed16 (pair a b)) (at + 2)
 
-  -- a run of at most k values by the control at its place; `more` comes after a run with so many values after its first
-  abbrev pub control_ahead : List ℕ → ℕ → ℕ → (ℕ → ℕ → Ahead ℤ) → Ahead ℤ
-  control_ahead [] at k more = fails (Deltas at)
-  control_ahead (c ∷ r) at k more = fails_if (nat_lt k (suc (c % 64))) (Deltas at) (kind_ahead (run_kind c) at (suc (c % 64)) (more (c % 64)))
+-- how deltas are packed
+abbrev pub delta_form : Form DeltaPacking DeltaKind ℤ
+delta_form = record { begins = run_in; blames = λ at. Deltas at; unpacks = λ q k bs at. delta_in q k (drop at bs) at }
 
-  -- the runs of k values; the first number bounds how many runs there are
-  abbrev pub runs_ahead : ℕ → ℕ → ℕ → Ahead ℤ
-  runs_ahead zero k at = ends at
-  runs_ahead (suc m) zero at = ends at
-  runs_ahead (suc m) (suc k) at = control_ahead (drop at bs) at (suc k) (λ n past. runs_ahead m (k - n) past)
+abbrev pub DeltaCursor : Type 0
+DeltaCursor = RunCursor DeltaPacking DeltaKind
 
-  -- a stream of k deltas
-  abbrev pub deltas_from : ℕ → ℕ → Ahead ℤ
-  deltas_from k at = runs_ahead k k at
-
-  -- what a cursor in this state has ahead: the run that it is in, and `left` values after it
-  abbrev pub state_ahead : DeltaState → ℕ → ℕ → ℕ → Ahead ℤ
-  state_ahead Between control at left = deltas_from left at
-  state_ahead (Zeros n) control at left = run_ahead zeros control (suc n) at (deltas_from left)
-  state_ahead (Bytes n) control at left = run_ahead bytes control (suc n) at (deltas_from left)
-  state_ahead (Words n) control at left = run_ahead words control (suc n) at (deltas_from left)
-  state_ahead Done control at left = ends at
+-- a stream of k deltas
+abbrev pub deltas_from : List ℕ → ℕ → ℕ → Ahead ℤ
+deltas_from bs k at = stream_ahead delta_form bs k (record {}) at
 
 -- what a cursor has ahead
 abbrev pub deltas_ahead : DeltaCursor → Ahead ℤ
-deltas_ahead c = state_ahead c.table.now c.state c.control c.at c.left
+deltas_ahead c = ahead delta_form c
 
 -- one call: its answer and what it leaves
-pub record DeltaStep (c : DeltaCursor) (r : Result (Maybe ℤ) StreamFault) (c' : DeltaCursor) : Type 0 where
-  pub answer : r ≡ answer_of (deltas_ahead c)
-  pub ahead : deltas_ahead c' ≡ rest_of (deltas_ahead c)
-  pub same : c'.table.now ≡ c.table.now
-
--- the kind of run that a control byte begins; none where both bits are set
-abbrev pub kind_in : ℕ → Maybe RunKind
-kind_in c = cond (nat_le 192 c) None (Some (cond (nat_le 128 c) OfZeros (cond (nat_le 64 c) OfWords OfBytes)))
-
--- inside a run, n values after the next
-abbrev pub in_run : RunKind → ℕ → DeltaState
-in_run OfZeros n = Zeros n
-in_run OfBytes n = Bytes n
-in_run OfWords n = Words n
-
--- with n values of a run to come
-abbrev pub run_state : RunKind → ℕ → DeltaState
-run_state k n = cond (n == 0) Between (in_run k (n - 1))
+abbrev pub DeltaStep : DeltaCursor → Result (Maybe ℤ) StreamFault → DeltaCursor → Type 0
+DeltaStep c r c' = RunStep delta_form c r c'
 
 -- the place past k deltas, or their fault
 abbrev pub PastDeltas : List ℕ → ℕ → ℕ → Result ℕ StreamFault → Type 0

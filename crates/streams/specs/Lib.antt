@@ -1,4 +1,5 @@
 pub mod Faults
 pub mod Ahead
+pub mod Runs
 pub mod Deltas
 pub mod Points

@@ -2,6 +2,9 @@
 ghost use Rattle.std.specs.Prelude.{◌≡◌};
 ghost use Rattle.streams.specs.Faults.{fault_number, fault_place};
 
+use std::error::Error;
+use std::fmt;
+
 // The place is that of the count or of the run control at fault.
 #[derive(Clone, Copy, PartialEq, Eq, Debug)]
 pub enum StreamFault {
@@ -23,8 +26,18 @@ impl StreamFault {
         ensures { result ≡ fault_place self }
     {
         match self {
-            StreamFault::Points(at) => at,
-            StreamFault::Deltas(at) => at,
+            StreamFault::Points(at) | StreamFault::Deltas(at) => at,
         }
     }
 }
+
+// Number and place.
+impl fmt::Display for StreamFault {
+    fn fmt<W: fmt::Write>(&self, f: &mut fmt::Formatter<W>) -> fmt::Result {
+        let number = self.number();
+        let place = self.place();
+        write!(f, "refused {number} stream place {place}")
+    }
+}
+
+impl Error for StreamFault {}

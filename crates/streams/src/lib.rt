@@ -4,5 +4,7 @@
 pub mod deltas;
 pub mod fault;
 pub mod points;
+pub mod runs;
 #[cfg(test)]
 mod tests;
+pub mod words;

@@ -1,19 +1,14 @@
 use Rattle.streams.specs.Deltas.{deltas_ahead}
-use Rattle.reader.proofs.AheadSteps.{no_fault, falls}
+use Rattle.reader.proofs.AheadSteps.{falls}
 use Rattle.reader.proofs.MoveSteps.{delta_came}
 use Rattle.reader.proofs.moves.next_delta.Goals as goal
 
-pub returns-in-Ok : goal.returns-in-Ok
-returns-in-Ok c =
-    let s = c.in-Ok.ensures in
+pub returns : goal.returns
+returns c =
+    let s = c.next.ensures in
+    rw c.unwrap_or.ensures (
     record {
-      came = λ vs h. delta_came c.args.cursor.now c.next.new.self vs h.0 c.in-Ok.o h.1 s;
-      falls = falls (deltas_ahead c.args.cursor.now) (deltas_ahead c.next.new.self) c.in-Ok.o s.answer s.ahead;
+      came = λ vs h. delta_came c.args.cursor.now c.next.new.self vs h.0 c.next.result h.1 s;
+      falls = falls (deltas_ahead c.args.cursor.now) (deltas_ahead c.next.new.self) c.next.result s.answer s.left;
     }
-
-pub returns-in-Err : goal.returns-in-Err
-returns-in-Err c =
-    record {
-      came = λ vs h. no_fault (deltas_ahead c.args.cursor.now) (deltas_ahead c.next.new.self) h.0 vs _ h.1 c.in-Err.ensures.answer;
-      falls = tt;
-    }
+    )

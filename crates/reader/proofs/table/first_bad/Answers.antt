@@ -2,6 +2,7 @@ use Rattle.std.proofs.Common.{◌+◌, ◌<◌, ◌≤◌, length, refl, ◌∙�
 use Rattle.std.proofs.lemmas.Bool.{lt-ltb, le-ltb, or_from}
 use Rattle.reader.specs.Tables.{offset_in}
 use Rattle.reader.proofs.TableSteps.{before, before_next, bad_none, bad_here, bad_next, bad_done, first_true, second_true}
+use Rattle.reader.proofs.table.first_bad.Goals.{then-at-last-via-then-at-last, then-at-last-via-else-at-last+then-bytes-data_at}
 use Rattle.reader.proofs.table.first_bad.Goals as goal
 
 pub loop-i-init : goal.loop-i-init
@@ -9,8 +10,17 @@ loop-i-init c = (refl, bad_none c.args.bytes.now c.args.long c.args.glyphs c.arg
 
 pub returns-then-at-last : goal.returns-then-at-last
 returns-then-at-last c =
-    let l : offset_in c.args.bytes.now c.args.long c.loop-i.i < before c.args.bytes.now c.args.long c.loop-i.i = omega (arith, c.offset_at-at.ensures, c.loop-i.invariant.0, c.if-at-last.true) in
-    bad_here c.args.bytes.now c.args.long c.args.glyphs c.args.data_at c.requires c.loop-i.i c.loop-i-test.true (first_true _ _ (lt-ltb _ _ l)) c.loop-i.invariant.1
+    let bs = c.args.bytes.now in
+    let long = c.args.long in
+    let i = c.loop-i.i in
+    elim c.then-at-last.branch [
+      | then-at-last-via-then-at-last w ↦
+          let l : offset_in bs long i < before bs long i = omega (arith, c.offset_at-at.ensures, c.loop-i.invariant.0, w.if-at-last.true) in
+          bad_here bs long c.args.glyphs c.args.data_at c.requires i c.loop-i-test.true (first_true _ _ (lt-ltb _ _ l)) c.loop-i.invariant.1
+      | then-at-last-via-else-at-last+then-bytes-data_at w ↦
+          let l : length bs < c.args.data_at + offset_in bs long i = omega (arith, c.offset_at-at.ensures, w.if-bytes-data_at.true) in
+          bad_here bs long c.args.glyphs c.args.data_at c.requires i c.loop-i-test.true (second_true _ _ (lt-ltb _ _ l)) c.loop-i.invariant.1
+    ]
 
 pub loop-i-preserved : goal.loop-i-preserved
 loop-i-preserved c =
@@ -22,8 +32,3 @@ loop-i-preserved c =
 
 pub returns : goal.returns
 returns c = bad_done c.args.bytes.now c.args.long c.args.glyphs c.args.data_at c.loop-i.i c.loop-i-test.false c.loop-i.invariant.1
-
-pub returns-then-bytes-data_at : goal.returns-then-bytes-data_at
-returns-then-bytes-data_at c =
-    let l : length c.args.bytes.now < c.args.data_at + offset_in c.args.bytes.now c.args.long c.loop-i.i = omega (arith, c.offset_at-at.ensures) in
-    bad_here c.args.bytes.now c.args.long c.args.glyphs c.args.data_at c.requires c.loop-i.i c.loop-i-test.true (second_true _ _ (lt-ltb _ _ l)) c.loop-i.invariant.1

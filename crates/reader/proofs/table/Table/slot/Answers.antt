@@ -1,6 +1,7 @@
 use Rattle.std.proofs.Common.{◌≡◌, ◌+◌, ◌-◌, drop, Ok, sym, ap, ◌∙◌, arith}
 use Rattle.format.specs.Reader.{checked, read_bytes_of_slot, read_slot}
 use Rattle.slots.specs.Slots.{SlotChecked}
+use Rattle.reader.proofs.SlotWalkSteps.{first_list}
 use Rattle.reader.proofs.SlotPlaces.{first_inside, second_inside, located}
 use Rattle.reader.proofs.table.Table.slot.Goals as goal
 
@@ -30,9 +31,9 @@ returns-in-Ok c w =
     located bs g p h w.its_head w.no_fault t c.offset.result c.offset-2.result
     (c.offset.ensures (first_inside bs g p h w.its_head w.no_fault t)) (c.offset-2.ensures (second_inside bs g p h w.its_head w.no_fault t))
     ∙ ap (λ l. read_bytes_of_slot (checked bs) g p (drop at l) at) (sym c.upto-bytes.ensures) in
-    let k : SlotChecked c.upto-bytes.result.now at h.axes h.peaks p (Ok c.in-Ok.s) = c.in-Ok.ensures in
+    let k : SlotChecked c.upto-bytes.result.now at h.axes h.peaks p (Ok c.in-Ok.rest) = c.in-Ok.ensures in
     let q = k.entries_read (checked bs) g (sym (ap (λ x. x.axes) w.its_head)) (sym (ap (λ x. x.peaks) w.its_head)) in
-    let z : c.in-Ok.s.count - 0 ≡ c.in-Ok.s.count = omega arith in
+    let z : c.in-Ok.rest.count - 0 ≡ c.in-Ok.rest.count = omega arith in
     record {
       entries = q.0;
       is_read = place ∙ q.4;
@@ -42,7 +43,7 @@ returns-in-Ok c w =
         in_table = c.upto-bytes.ensures;
         set = k.set;
         number = k.number;
-        set_read = record { left = drop c.in-Ok.s.body c.upto-bytes.result.now; past = c.in-Ok.s.body; is_read = k.set_read };
+        set_read = first_list (record { table = c.args.self.now; bytes = c.upto-bytes.result; p = p; i = 0; rest = c.in-Ok.rest }) c.in-Ok.rest.points p c.in-Ok.rest.body k.set k.set_read;
         glyph = g;
         headers = k.headers;
         left = k.left;

@@ -1,5 +1,0 @@
-use Rattle.std.proofs.Common.{sym, arith, take_all}
-use Rattle.reader.proofs.slot.upto.Goals as goal
-
-pub returns-else-end-bytes : goal.returns-else-end-bytes
-returns-else-end-bytes c = sym (take_all c.args.end c.args.bytes.now (omega arith))

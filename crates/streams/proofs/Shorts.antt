@@ -1,0 +1,23 @@
+-- Words that are cut short.
+use Rattle.std.proofs.Common.{◌≡◌, ℕ, ◌+◌, ◌<◌, List, [], ◌∷◌, length, drop, None, refl, arith, length-drop}
+use Rattle.streams.specs.declared.deltas.DeltaKind.TheVariants.{Words}
+use Rattle.streams.specs.declared.points.GapKind.TheVariants.{Words as GapWords}
+use Rattle.streams.specs.declared.deltas.DeltaPacking.{DeltaPacking}
+use Rattle.streams.specs.Deltas.{delta_in}
+use Rattle.streams.specs.Points.{gap_in}
+
+short_delta : (q : DeltaPacking) (xs : List ℕ) (at : ℕ) → length xs < 2 → None ≡ delta_in q Words xs at
+short_delta q [] at h = refl
+short_delta q (a ∷ []) at h = refl
+short_delta q (a ∷ (b ∷ xs)) at h = absurd (omega arith)
+
+pub no_delta : (q : DeltaPacking) (bs : List ℕ) (at : ℕ) → length bs < at + 2 → None ≡ delta_in q Words (drop at bs) at
+no_delta q bs at h = short_delta q (drop at bs) at (omega (arith, length-drop at bs))
+
+short_gap : (xs : List ℕ) (at : ℕ) → length xs < 2 → None ≡ gap_in GapWords xs at
+short_gap [] at h = refl
+short_gap (a ∷ []) at h = refl
+short_gap (a ∷ (b ∷ xs)) at h = absurd (omega arith)
+
+pub no_gap : (bs : List ℕ) (at : ℕ) → length bs < at + 2 → None ≡ gap_in GapWords (drop at bs) at
+no_gap bs at h = short_gap (drop at bs) at (omega (arith, length-drop at bs))

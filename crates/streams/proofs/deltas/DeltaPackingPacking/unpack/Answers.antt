@@ -1,0 +1,6 @@
+use Rattle.streams.proofs.Shorts.{no_delta}
+use Rattle.streams.proofs.deltas.DeltaPackingPacking.unpack.Goals as goal
+
+pub returns-in_err-word_at-in-Words : goal.returns-in_err-word_at-in-Words
+returns-in_err-word_at-in-Words c =
+    rw (c.from_residual-in_err-word_at-in-Words.ensures, c.in-Words.is) (no_delta c.args.self c.args.table.now c.args.at c.in_err-word_at-in-Words.ensures.ends)
