@@ -33,10 +33,9 @@ fn are_values<F: Fn(i16) -> i16>(given: &[i16], read: Tuple<'_>, bound: F) -> bo
     requires { F.IsAlwaysCallable bound }
 {
     given.len() == read.len()
-        && given
-            .iter()
-            .enumerate()
-            .all(|(i, value)| read.get(i).is_some_and(|v| bound(v) == *value))
+        && given.iter().enumerate().all(|(i, value)| read
+            .get(i)
+            .is_some_and(|v| bound(v) == *value))
 }
 
 fn bounds_differ(given: GlyphDeltas<'_>, entry: Entry<'_>) -> Option<Difference> {

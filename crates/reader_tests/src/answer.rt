@@ -2,9 +2,8 @@
 use printed::tents::Tents;
 use reader::entry::Entry;
 use reader::slot::open_glyph;
-use std::fmt;
-use std::io;
 use std::io::{BufWriter, Stdout, Write};
+use std::{fmt, io};
 
 // Each move after a space: the point, x and y.
 #[derive(Clone, Copy)]
