@@ -1,7 +1,6 @@
 // Cells of each kind, as many as are asked for.
-ghost use Rattle.std.specs.Prelude.{◌≡◌, IfOk, length, replicate};
+ghost use Rattle.std.specs.Prelude.{◌≡◌, IfOk, length};
 ghost use Rattle.format.specs.Account.{opened};
-ghost use Rattle.counts.specs.Cells.{blank};
 ghost use Rattle.sets.specs.OfSet.{account_of};
 ghost use Rattle.lent.specs.Sizes.{sizes_of};
 
