@@ -11,44 +11,28 @@ use std::time::Instant;
 const AXES: usize = 2;
 
 // The peak of each of n variations, as many of them different as `kinds` says.
-fn values(heap: Global, n: usize, kinds: usize) -> Result<Vec<i16>, AllocError> {
+fn values(alloc: Global, n: usize, kinds: usize) -> Result<Vec<i16>, AllocError> {
     let kinds = kinds.max(1);
-    let mut values = Vec::new(heap);
+    let mut values = Vec::new(alloc);
     for i in 0..n {
         let kind = i.wrapping_mul(7919) % kinds;
         let low = (kind % 16384) as i16;
         let high = (kind / 16384 % 16384) as i16;
-        let _ = values.push(low);
-        let _ = values.push(high);
-        for _ in 0..4 {
-            let _ = values.push(0);
-        }
+        values.extend_from_slice(&[low, high, 0, 0, 0, 0])?;
     }
     Ok(values)
 }
 
-fn cells(heap: Global, n: usize) -> Result<Vec<CountCell>, AllocError> {
-    let mut cells = Vec::new(heap);
-    for _ in 0..n {
-        let _ = cells.push(CountCell::zeros());
-    }
-    Ok(cells)
-}
-
 // The sum of all ranks.
 fn sum(table: &CountTable, n: usize) -> usize {
-    let mut sum: usize = 0;
-    for i in 0..n {
-        if let Some(rank) = table.rank_of(i) {
-            sum = sum.wrapping_add(rank);
-        }
-    }
-    sum
+    (0..n)
+        .filter_map(|i| table.rank_of(i))
+        .fold(0, |sum: usize, rank| sum.wrapping_add(rank))
 }
 
 fn measure(rt: &HostRuntime, n: usize, kinds: usize) -> io::Result<()> {
     let values = values(rt.alloc(), n, kinds)?;
-    let mut cells = cells(rt.alloc(), n)?;
+    let mut cells = vec![in rt.alloc(); CountCell::zeros(); n]?;
     let peaks = Peaks::over(values.as_slice(), AXES, n);
     let mut table = CountTable::over(cells.as_mut_slice());
     let start = Instant::now(rt)?;

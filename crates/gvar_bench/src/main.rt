@@ -2,11 +2,11 @@
 // `full`, those of a large font. The times go to standard error.
 #![tactic(auto)]
 
-use anyhow::anyhow;
-use counts::cells::CountCell;
+use anyhow::bail;
 use gvar::compile::compile;
+use lent::memory::{Memory, Opened, Sizes};
 use sets::axis::AxisCount;
-use sets::cells::{GlyphCell, VariationCell};
+use sets::refusal::Refusal;
 use sets::set::Set;
 use sets::tent::Tent;
 use std::alloc::{AllocError, Global};
@@ -37,17 +37,6 @@ struct Times {
     compile: u128,
 }
 
-// The lent stores.
-#[derive(Drop)]
-struct Stores {
-    glyphs: Vec<GlyphCell>,
-    variations: Vec<VariationCell>,
-    values: Vec<i16>,
-    deltas: Vec<GlyphDelta>,
-    counts: Vec<CountCell>,
-    memory: Vec<u8>,
-}
-
 fn mixed(seed: u32) -> u32 {
     seed.wrapping_mul(1664525).wrapping_add(1013904223)
 }
@@ -58,8 +47,8 @@ fn value(seed: u32) -> i16 {
 }
 
 // The deltas that all variations take theirs from; one in four is required.
-fn pool(heap: Global) -> Result<Vec<GlyphDelta>, AllocError> {
-    let mut deltas = Vec::new(heap);
+fn pool(alloc: Global) -> Result<Vec<GlyphDelta>, AllocError> {
+    let mut deltas = Vec::new(alloc);
     let mut seed = 1;
     for _ in 0..2 * POOL {
         seed = mixed(seed);
@@ -73,18 +62,23 @@ fn pool(heap: Global) -> Result<Vec<GlyphDelta>, AllocError> {
     Ok(deltas)
 }
 
-fn make_stores(heap: Global, shape: Shape) -> Result<Stores, AllocError> {
+// As many cells as the shape uses, and as many bytes as its table takes at most.
+fn make_memory(alloc: Global, shape: Shape) -> Result<(Memory, Vec<u8>), AllocError> {
     let glyphs = shape.glyphs as usize;
     let variations = glyphs * shape.variations as usize;
     let deltas = variations * shape.points as usize;
-    Ok(Stores {
-        glyphs: vec![in heap; GlyphCell::blank(); glyphs]?,
-        variations: vec![in heap; VariationCell::blank(); variations]?,
-        values: vec![in heap; 0; variations * (3 * AXES)]?,
-        deltas: vec![in heap; GlyphDelta::required(0, 0); deltas]?,
-        counts: vec![in heap; CountCell::zeros(); variations]?,
-        memory: vec![in heap; 0; deltas * 3 + variations * 16 + glyphs * 8 + 1000]?,
-    })
+    let memory = Memory::blank(
+        alloc,
+        Sizes {
+            glyphs,
+            variations,
+            values: variations * (3 * AXES),
+            deltas,
+            counts: variations,
+        },
+    )?;
+    let bytes = vec![in alloc; 0; deltas * 3 + variations * 16 + glyphs * 8 + 1000]?;
+    Ok((memory, bytes))
 }
 
 // The peak of variation v on an axis: the axes take turns, up and then down, and every eighth has a peak of its glyph's own.
@@ -102,34 +96,26 @@ fn tent(peak: i16) -> Tent {
     Tent { peak, bounds: None }
 }
 
-// Begins all glyphs and adds all variations; how many calls were refused?
-fn fill(set: &mut Set<'_>, shape: Shape, pool: &[GlyphDelta]) -> u32 {
-    let mut refused: u32 = 0;
+// Begins all glyphs and adds all variations.
+fn fill(set: &mut Set<'_>, shape: Shape, pool: &[GlyphDelta]) -> Result<(), Refusal> {
     let points = shape.points as usize;
     for g in 0..shape.glyphs {
-        if set.glyph(g).is_err() {
-            refused = refused.wrapping_add(1);
-        }
+        set.glyph(g)?;
         for v in 0..shape.variations {
-            let tents = [
-                tent(peak(g, v, 0)),
-                tent(peak(g, v, 1)),
-                tent(peak(g, v, 2)),
-                tent(peak(g, v, 3)),
-            ];
+            let tents = [0, 1, 2, 3].map(|axis| tent(peak(g, v, axis)));
             let k = (g as usize * 31 + v as usize * 997) % POOL;
-            if k + points <= pool.len() && set.variation(&tents, &pool[k..k + points]).is_err() {
-                refused = refused.wrapping_add(1);
+            if let Some(deltas) = pool.get(k..k + points) {
+                set.variation(&tents, deltas)?;
             }
         }
     }
-    refused
+    Ok(())
 }
 
 // The best times of some rounds.
 fn measure(rt: &HostRuntime, shape: Shape, pool: &[GlyphDelta]) -> anyhow::Result<Times> {
-    let mut stores = make_stores(rt.alloc(), shape)?;
-    let deltas = stores.deltas.len() as u128;
+    let (mut memory, mut bytes) = make_memory(rt.alloc(), shape)?;
+    let deltas = memory.deltas.len() as u128;
     let mut best = Times {
         deltas,
         fill: u128::MAX,
@@ -138,24 +124,18 @@ fn measure(rt: &HostRuntime, shape: Shape, pool: &[GlyphDelta]) -> anyhow::Resul
     let mut length = 0;
     for _ in 0..ROUNDS {
         let Ok(axes) = AxisCount::new(AXES as u16) else {
-            return Err(anyhow!("too many axes"));
+            bail!("too many axes");
         };
         let start = Instant::now(rt)?;
-        let mut set = Set::open(
-            axes,
-            stores.glyphs.as_mut_slice(),
-            stores.variations.as_mut_slice(),
-            stores.values.as_mut_slice(),
-            stores.deltas.as_mut_slice(),
-        );
-        if fill(&mut set, shape, pool) > 0 {
-            return Err(anyhow!("a call was refused"));
+        let Opened { mut set, counts } = memory.open(axes);
+        if fill(&mut set, shape, pool).is_err() {
+            bail!("a call was refused");
         }
         best.fill = best.fill.min(start.elapsed(rt)?.as_nanos());
-        let mut buffer = Buffer::new(stores.memory.as_mut_slice());
+        let mut buffer = Buffer::new(bytes.as_mut_slice());
         let start = Instant::now(rt)?;
-        let Ok(n) = compile(&set, stores.counts.as_mut_slice(), &mut buffer) else {
-            return Err(anyhow!("the compile was refused"));
+        let Ok(n) = compile(&set, counts, &mut buffer) else {
+            bail!("the compile was refused");
         };
         best.compile = best.compile.min(start.elapsed(rt)?.as_nanos());
         length = n;
@@ -192,8 +172,7 @@ fn report(rt: &HostRuntime, shape: Shape, best: Times, length: usize) -> anyhow:
 fn compare(rt: &HostRuntime, shape: Shape, pool: &[GlyphDelta]) -> anyhow::Result<()> {
     let half = Shape {
         glyphs: shape.glyphs / 2,
-        variations: shape.variations,
-        points: shape.points,
+        ..shape
     };
     let before = measure(rt, half, pool)?;
     let after = measure(rt, shape, pool)?;
@@ -204,13 +183,7 @@ fn compare(rt: &HostRuntime, shape: Shape, pool: &[GlyphDelta]) -> anyhow::Resul
 }
 
 fn is_full(rt: &HostRuntime) -> anyhow::Result<bool> {
-    let mut full = false;
-    for word in env::args(rt)? {
-        if word.as_str() == "full" {
-            full = true;
-        }
-    }
-    Ok(full)
+    Ok(env::args(rt)?.any(|word| word.as_str() == "full"))
 }
 
 fn run(rt: &HostRuntime) -> anyhow::Result<()> {

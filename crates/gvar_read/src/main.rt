@@ -1,69 +1,53 @@
 // Prints what a table says of one glyph, or of all.
 #![tactic(auto)]
 
+mod report;
 mod request;
-mod show;
 
-use anyhow::anyhow;
+use anyhow::{Context, ensure};
 use reader::fault::Fault;
 use reader::table::Table;
+use report::Report;
 use request::{Glyphs, Request};
-use show::{show_glyph, show_table};
-use std::io::{BufWriter, Stdout, Write};
+use std::io::BufWriter;
 use std::process::ExitCode;
 
-// The glyphs one after another, each with its number of points; is one of them refused?
-fn show_all(out: &mut BufWriter<Stdout>, table: Table<'_>, counts: &str) -> anyhow::Result<bool> {
-    let mut refused = false;
+// The glyphs one after another, each with its number of points.
+fn show_all(report: &mut Report, table: Table<'_>, counts: &str) -> anyhow::Result<()> {
     let mut words = counts.split_whitespace();
     for glyph in 0..table.glyph_count() {
-        let Some(word) = words.next() else {
-            return Err(anyhow!("there are fewer point counts than glyphs"));
-        };
-        if !show_glyph(out, table, glyph, word.parse::<u16>()?)? {
-            refused = true;
-        }
+        let word = words
+            .next()
+            .context("there are fewer point counts than glyphs")?;
+        report.glyph(table, glyph, word.parse::<u16>()?)?;
     }
-    if words.next().is_some() {
-        return Err(anyhow!("there are more point counts than glyphs"));
-    }
-    Ok(refused)
+    ensure!(
+        words.next().is_none(),
+        "there are more point counts than glyphs"
+    );
+    Ok(())
 }
 
-// Is something refused?
-fn answer(out: &mut BufWriter<Stdout>, request: &Request) -> anyhow::Result<bool> {
+fn answer(report: &mut Report, request: &Request) -> anyhow::Result<()> {
     let table = match Table::check(request.bytes.as_slice()) {
         Ok(table) => table,
-        Err(f) => {
-            let f = Fault::InTable(f);
-            writeln!(out, "{f}")?;
-            return Ok(true);
-        }
+        Err(fault) => return Ok(report.refused(Fault::from(fault))?),
     };
-    show_table(out, table)?;
+    report.table(table)?;
     match &request.glyphs {
-        Glyphs::None => Ok(false),
-        Glyphs::One(glyph, points) => {
-            let shown = show_glyph(out, table, *glyph, *points)?;
-            Ok(!shown)
-        }
-        Glyphs::All(counts) => show_all(out, table, counts.as_str()),
+        Glyphs::None => Ok(()),
+        Glyphs::One { glyph, points } => Ok(report.glyph(table, *glyph, *points)?),
+        Glyphs::All(counts) => show_all(report, table, counts.as_str()),
     }
 }
 
-fn run(rt: &HostRuntime) -> anyhow::Result<bool> {
-    let request = request::read_request(rt)?;
-    let mut out = BufWriter::new(rt.alloc(), rt.stdout())?;
-    let refused = answer(&mut out, &request)?;
-    out.flush()?;
-    Ok(refused)
+fn run(rt: &HostRuntime) -> anyhow::Result<ExitCode> {
+    let request = Request::read(rt)?;
+    let mut report = Report::new(BufWriter::new(rt.alloc(), rt.stdout())?);
+    answer(&mut report, &request)?;
+    Ok(report.finish()?)
 }
 
 fn main(rt: HostRuntime) -> anyhow::Result<ExitCode> {
-    let refused = run(&rt)?;
-    Ok(if refused {
-        ExitCode::FAILURE
-    } else {
-        ExitCode::SUCCESS
-    })
+    run(&rt)
 }

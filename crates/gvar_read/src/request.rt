@@ -1,5 +1,5 @@
 // What is asked for: a table, and one of its glyphs or all.
-use anyhow::anyhow;
+use anyhow::bail;
 use std::io::Read;
 use std::{env, fs};
 
@@ -16,7 +16,7 @@ const USAGE: &str = "gvar_read [TABLE [GLYPH POINTS | all COUNTS]]";
 #[derive(Drop)]
 pub enum Glyphs {
     None,
-    One(u16, u16),
+    One { glyph: u16, points: u16 },
     All(String),
 }
 
@@ -36,34 +36,32 @@ fn read_table(rt: &HostRuntime, name: &str) -> anyhow::Result<Vec<u8>> {
     Ok(fs::read(rt, name)?)
 }
 
-pub fn read_request(rt: &HostRuntime) -> anyhow::Result<Request> {
-    let mut words = env::args(rt)?;
-    let _ = words.next();
-    let Some(name) = words.next() else {
-        let mut bytes = Vec::new(rt.alloc());
-        bytes.extend_from_slice(&STORED)?;
-        return Ok(Request {
-            bytes,
-            glyphs: Glyphs::One(0, 1),
-        });
-    };
-    let bytes = read_table(rt, name.as_str())?;
-    let Some(which) = words.next() else {
-        return Ok(Request {
-            bytes,
-            glyphs: Glyphs::None,
-        });
-    };
-    let Some(count) = words.next() else {
-        return Err(anyhow!("{USAGE}"));
-    };
-    if words.next().is_some() {
-        return Err(anyhow!("{USAGE}"));
+impl Request {
+    // What the arguments ask for.
+    pub fn read(rt: &HostRuntime) -> anyhow::Result<Request> {
+        let words: Vec<String> = env::args(rt)?.skip(1).collect(rt.alloc())?;
+        let (bytes, glyphs) = match words.as_slice() {
+            [] => (
+                Vec::from_slice(rt.alloc(), &STORED)?,
+                Glyphs::One {
+                    glyph: 0,
+                    points: 1,
+                },
+            ),
+            [table] => (read_table(rt, table.as_str())?, Glyphs::None),
+            [table, all, counts] if all.as_str() == "all" => (
+                read_table(rt, table.as_str())?,
+                Glyphs::All(fs::read_to_string(rt, counts.as_str())?),
+            ),
+            [table, glyph, points] => (
+                read_table(rt, table.as_str())?,
+                Glyphs::One {
+                    glyph: glyph.parse::<u16>()?,
+                    points: points.parse::<u16>()?,
+                },
+            ),
+            _ => bail!("{USAGE}"),
+        };
+        Ok(Request { bytes, glyphs })
     }
-    let glyphs = if which.as_str() == "all" {
-        Glyphs::All(fs::read_to_string(rt, count.as_str())?)
-    } else {
-        Glyphs::One(which.parse::<u16>()?, count.parse::<u16>()?)
-    };
-    Ok(Request { bytes, glyphs })
 }

@@ -1,20 +1,27 @@
 // The answers as text.
 use counts::cells::CountCell;
 use sets::refusal::Refusal;
-use std::io;
 use std::io::{BufWriter, Stdout, Write};
+use std::{fmt, io};
 
 // The number, and the glyph and the variation concerned.
-pub fn show_refusal(out: &mut BufWriter<Stdout>, e: Refusal) -> io::Result<()> {
-    let number = e.number();
-    write!(out, " refused {number}")?;
-    if let Some(glyph) = e.glyph() {
+pub fn show_refusal(out: &mut BufWriter<Stdout>, refusal: Refusal) -> io::Result<()> {
+    write!(out, " refused {}", refusal.number())?;
+    if let Some(glyph) = refusal.glyph() {
         write!(out, " glyph {glyph}")?;
     }
-    if let Some(variation) = e.variation() {
+    if let Some(variation) = refusal.variation() {
         write!(out, " variation {variation}")?;
     }
     Ok(())
+}
+
+// How many calls were accepted, or why one of them was not.
+pub fn show_calls(out: &mut BufWriter<Stdout>, answer: Result<u16, Refusal>) -> io::Result<()> {
+    match answer {
+        Ok(accepted) => write!(out, " {accepted}"),
+        Err(refusal) => show_refusal(out, refusal),
+    }
 }
 
 // The length of a table, or why there is none.
@@ -25,39 +32,41 @@ pub fn show_compiled(
     write!(out, " |")?;
     match answer {
         Ok(length) => write!(out, " compiled {length}"),
-        Err(e) => show_refusal(out, e),
+        Err(refusal) => show_refusal(out, refusal),
     }
 }
 
-fn all_zeros(cells: &[CountCell]) -> bool {
-    for cell in cells {
-        if cell.rank() != 0 || cell.order() != 0 || cell.is_marked() {
-            return false;
+fn is_same(a: &CountCell, b: &CountCell) -> bool {
+    a.rank() == b.rank() && a.order() == b.order() && a.is_marked() == b.is_marked()
+}
+
+// What became of the count cells at a compile.
+#[derive(Clone, Copy)]
+pub enum Cells {
+    Zeros,
+    Same,
+    Changed,
+}
+
+impl Cells {
+    pub fn since(before: &[CountCell], after: &[CountCell]) -> Cells {
+        let zeros = CountCell::zeros();
+        if after.iter().all(|cell| is_same(cell, &zeros)) {
+            Cells::Zeros
+        } else if before.iter().zip(after).all(|(b, a)| is_same(b, a)) {
+            Cells::Same
+        } else {
+            Cells::Changed
         }
     }
-    true
 }
 
-fn all_same(before: &[CountCell], after: &[CountCell]) -> bool {
-    for (a, b) in before.iter().zip(after.iter()) {
-        if a.rank() != b.rank() || a.order() != b.order() || a.is_marked() != b.is_marked() {
-            return false;
+impl fmt::Display for Cells {
+    fn fmt<W: fmt::Write>(&self, f: &mut fmt::Formatter<W>) -> fmt::Result {
+        match self {
+            Cells::Zeros => f.write_str(", cells zeros"),
+            Cells::Same => f.write_str(", cells same"),
+            Cells::Changed => f.write_str(", cells changed"),
         }
     }
-    true
-}
-
-// Whether the count cells are zeros after a compile, or the same as before it.
-pub fn show_cells(
-    out: &mut BufWriter<Stdout>,
-    before: &[CountCell],
-    after: &[CountCell],
-) -> io::Result<()> {
-    if all_zeros(after) {
-        return write!(out, ", cells zeros");
-    }
-    if all_same(before, after) {
-        return write!(out, ", cells same");
-    }
-    write!(out, ", cells changed")
 }

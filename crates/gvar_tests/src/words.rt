@@ -1,17 +1,11 @@
-// The numbers of a case.
-use std::str::SplitWhitespace;
+// The words of a case.
+use std::error::Error;
+use std::str::{FromStr, SplitWhitespace};
 
-pub fn number(words: &mut SplitWhitespace<'_>) -> anyhow::Result<usize> {
-    let word = words.next().unwrap_or("");
-    Ok(word.parse::<usize>()?)
-}
-
-pub fn word_number(words: &mut SplitWhitespace<'_>) -> anyhow::Result<u16> {
-    let word = words.next().unwrap_or("");
-    Ok(word.parse::<u16>()?)
-}
-
-pub fn value(words: &mut SplitWhitespace<'_>) -> anyhow::Result<i16> {
-    let word = words.next().unwrap_or("");
-    Ok(word.parse::<i16>()?)
+// The next word as a number.
+pub fn parsed<T: FromStr>(words: &mut SplitWhitespace<'_>) -> anyhow::Result<T>
+where
+    T::Err: Error,
+{
+    Ok(words.next().unwrap_or("").parse::<T>()?)
 }

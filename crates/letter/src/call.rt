@@ -1,7 +1,10 @@
 // A call, as a line of a script gives it.
-use crate::lent::Stores;
+use lent::memory::Sizes;
 use sets::tent::{Bounds, Tent};
 use std::alloc::{AllocError, Global};
+use std::num::ParseIntError;
+use std::str::FromStr;
+use thiserror::Error;
 use variations::delta::GlyphDelta;
 
 // The sink that a table is handed to.
@@ -15,12 +18,21 @@ pub enum Kind {
 
 #[derive(Drop)]
 pub enum Call {
-    Stores(Stores),
+    Stores(Sizes),
     Axes(u16),
     Glyph(u16),
     Variation(Vec<Tent>, Vec<GlyphDelta>),
-    Compile(Kind, usize),
-    Read(u16, u16),
+    Compile { kind: Kind, allowance: usize },
+    Read { glyph: u16, points: u16 },
+}
+
+// Why a line gives no call.
+#[derive(Debug, Drop, Error)]
+pub enum CallError {
+    #[error("the line has not the form of a call")]
+    Form,
+    #[error("out of memory")]
+    Memory(#[from(alloc)] AllocError),
 }
 
 // The form of the call that a line begins.
@@ -36,138 +48,99 @@ pub fn form_wanted(line: &str) -> &'static str {
     }
 }
 
+impl From<ParseIntError> for CallError {
+    fn from(_error: ParseIntError) -> CallError {
+        CallError::Form
+    }
+}
+
+impl FromStr for Kind {
+    type Err = CallError;
+
+    fn from_str(word: &str) -> Result<Kind, CallError> {
+        match word {
+            "buffer" => Ok(Kind::Buffer),
+            "counter" => Ok(Kind::Counter),
+            "checksum" => Ok(Kind::Checksum),
+            "parity" => Ok(Kind::Parity),
+            _ => Err(CallError::Form),
+        }
+    }
+}
+
 // PEAK or PEAK:MIN:MAX.
-fn tent_of(word: &str) -> Option<Tent> {
+fn tent_of(word: &str) -> Result<Tent, CallError> {
     let Some((peak, bounds)) = word.split_once(':') else {
-        return Some(Tent {
-            peak: word.parse::<i16>().ok()?,
-            bounds: None,
-        });
+        let peak = word.parse::<i16>()?;
+        return Ok(Tent { peak, bounds: None });
     };
-    let (min, max) = bounds.split_once(':')?;
-    let peak = peak.parse::<i16>().ok()?;
-    let min = min.parse::<i16>().ok()?;
-    let max = max.parse::<i16>().ok()?;
-    Some(Tent {
-        peak,
-        bounds: Some(Bounds { min, max }),
+    let (min, max) = bounds.split_once(':').ok_or(CallError::Form)?;
+    Ok(Tent {
+        peak: peak.parse::<i16>()?,
+        bounds: Some(Bounds {
+            min: min.parse::<i16>()?,
+            max: max.parse::<i16>()?,
+        }),
     })
 }
 
 // X,Y,r or X,Y,o.
-fn delta_of(word: &str) -> Option<GlyphDelta> {
-    let (x, rest) = word.split_once(',')?;
-    let (y, kind) = rest.split_once(',')?;
-    let x = x.parse::<i16>().ok()?;
-    let y = y.parse::<i16>().ok()?;
+fn delta_of(word: &str) -> Result<GlyphDelta, CallError> {
+    let (x, rest) = word.split_once(',').ok_or(CallError::Form)?;
+    let (y, kind) = rest.split_once(',').ok_or(CallError::Form)?;
+    let x = x.parse::<i16>()?;
+    let y = y.parse::<i16>()?;
     match kind {
-        "r" => Some(GlyphDelta::required(x, y)),
-        "o" => Some(GlyphDelta::optional(x, y)),
-        _ => None,
+        "r" => Ok(GlyphDelta::required(x, y)),
+        "o" => Ok(GlyphDelta::optional(x, y)),
+        _ => Err(CallError::Form),
     }
 }
 
-fn tents_of(heap: Global, text: &str) -> Result<Option<Vec<Tent>>, AllocError> {
-    let mut tents = Vec::new(heap);
-    for word in text.split_whitespace() {
-        match tent_of(word) {
-            Some(tent) => tents.push(tent)?,
-            None => return Ok(None),
-        }
-    }
-    Ok(Some(tents))
-}
-
-fn deltas_of(heap: Global, text: &str) -> Result<Option<Vec<GlyphDelta>>, AllocError> {
-    let mut deltas = Vec::new(heap);
-    for word in text.split_whitespace() {
-        match delta_of(word) {
-            Some(delta) => deltas.push(delta)?,
-            None => return Ok(None),
-        }
-    }
-    Ok(Some(deltas))
-}
-
-// A line `variation T.. ; D..`.
-fn variation_of(heap: Global, line: &str) -> Result<Option<Call>, AllocError> {
-    let Some((front, deltas)) = line.split_once(';') else {
-        return Ok(None);
-    };
-    let Some(tents) = front.trim_start().strip_prefix("variation") else {
-        return Ok(None);
-    };
-    let Some(tents) = tents_of(heap, tents)? else {
-        return Ok(None);
-    };
-    let Some(deltas) = deltas_of(heap, deltas)? else {
-        return Ok(None);
-    };
-    Ok(Some(Call::Variation(tents, deltas)))
-}
-
-fn kind_of(word: &str) -> Option<Kind> {
-    match word {
-        "buffer" => Some(Kind::Buffer),
-        "counter" => Some(Kind::Counter),
-        "checksum" => Some(Kind::Checksum),
-        "parity" => Some(Kind::Parity),
-        _ => None,
-    }
+// T.. ; D..
+fn variation_of(alloc: Global, text: &str) -> Result<Call, CallError> {
+    let (tents, deltas) = text.split_once(';').ok_or(CallError::Form)?;
+    let tents = tents.split_whitespace().map(tent_of).try_collect(alloc)?;
+    let deltas = deltas.split_whitespace().map(delta_of).try_collect(alloc)?;
+    Ok(Call::Variation(tents, deltas))
 }
 
 // A number of axes; what no word holds is above every limit.
-fn axes_of(word: &str) -> Option<u16> {
-    let n = word.parse::<u64>().ok()?;
-    Some(u16::try_from(n).unwrap_or(u16::MAX))
+fn axes_of(word: &str) -> Result<u16, CallError> {
+    let count = word.parse::<u64>()?;
+    Ok(u16::try_from(count).unwrap_or(u16::MAX))
 }
 
-fn stores_of(line: &str) -> Option<Stores> {
-    let mut words = line.split_whitespace();
-    let _ = words.next();
-    let glyphs = words.next()?.parse::<usize>().ok()?;
-    let variations = words.next()?.parse::<usize>().ok()?;
-    let values = words.next()?.parse::<usize>().ok()?;
-    let deltas = words.next()?.parse::<usize>().ok()?;
-    let counts = words.next()?.parse::<usize>().ok()?;
-    if words.next().is_some() {
-        return None;
-    }
-    Some(Stores {
-        glyphs,
-        variations,
-        values,
-        deltas,
-        counts,
-    })
-}
-
-// A line of two words, or three.
-fn short_call(line: &str) -> Option<Call> {
-    let mut words = line.split_whitespace();
-    let name = words.next()?;
-    let first = words.next()?;
-    let second = words.next();
-    if words.next().is_some() {
-        return None;
-    }
-    match (name, second) {
-        ("axes", None) => Some(Call::Axes(axes_of(first)?)),
-        ("glyph", None) => Some(Call::Glyph(first.parse::<u16>().ok()?)),
-        ("compile", Some(n)) => Some(Call::Compile(kind_of(first)?, n.parse::<usize>().ok()?)),
-        ("read", Some(p)) => Some(Call::Read(first.parse::<u16>().ok()?, p.parse::<u16>().ok()?)),
-        _ => None,
+// A call whose words are all of one kind each.
+fn plain_call(words: &[&str]) -> Result<Call, CallError> {
+    match words {
+        ["stores", glyphs, variations, values, deltas, counts] => Ok(Call::Stores(Sizes {
+            glyphs: glyphs.parse::<usize>()?,
+            variations: variations.parse::<usize>()?,
+            values: values.parse::<usize>()?,
+            deltas: deltas.parse::<usize>()?,
+            counts: counts.parse::<usize>()?,
+        })),
+        ["axes", count] => Ok(Call::Axes(axes_of(count)?)),
+        ["glyph", number] => Ok(Call::Glyph(number.parse::<u16>()?)),
+        ["compile", kind, allowance] => Ok(Call::Compile {
+            kind: kind.parse::<Kind>()?,
+            allowance: allowance.parse::<usize>()?,
+        }),
+        ["read", glyph, points] => Ok(Call::Read {
+            glyph: glyph.parse::<u16>()?,
+            points: points.parse::<u16>()?,
+        }),
+        _ => Err(CallError::Form),
     }
 }
 
-// The call of a line, if it has the form of one.
-pub fn call_of(heap: Global, line: &str) -> Result<Option<Call>, AllocError> {
-    match line.split_whitespace().next() {
-        Some("variation") => variation_of(heap, line),
-        Some("stores") => match stores_of(line) {
-            Some(stores) => Ok(Some(Call::Stores(stores))),
-            None => Ok(None),
-        },
-        _ => Ok(short_call(line)),
+impl Call {
+    pub fn of(alloc: Global, line: &str) -> Result<Call, CallError> {
+        if let Some(("variation", rest)) = line.trim_start().split_once(char::is_whitespace) {
+            return variation_of(alloc, rest);
+        }
+        let words: Vec<&str> = line.split_whitespace().collect(alloc)?;
+        plain_call(words.as_slice())
     }
 }

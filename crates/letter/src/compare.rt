@@ -22,79 +22,48 @@ impl fmt::Display for Difference {
             Difference::Peak => f.write_str("another peak"),
             Difference::Start => f.write_str("another start"),
             Difference::End => f.write_str("another end"),
-            Difference::Missing(point) => {
-                let point = *point;
-                write!(f, "point {point} is not found")
-            }
-            Difference::Moved(point) => {
-                let point = *point;
-                write!(f, "point {point} moves otherwise")
-            }
+            Difference::Missing(point) => write!(f, "point {point} is not found"),
+            Difference::Moved(point) => write!(f, "point {point} moves otherwise"),
         }
     }
 }
 
-fn same_values(given: &[i16], read: Tuple<'_>) -> bool {
-    if given.len() != read.len() {
-        return false;
-    }
-    for i in 0..given.len() {
-        if read.get(i) != Some(given[i]) {
-            return false;
-        }
-    }
-    true
-}
-
-// Are these the starts, or else the ends, that the peak implies?
-fn same_implied(given: &[i16], peak: Tuple<'_>, ends: bool) -> bool {
-    if given.len() != peak.len() {
-        return false;
-    }
-    for i in 0..given.len() {
-        let Some(p) = peak.get(i) else {
-            return false;
-        };
-        let implied = if ends {
-            implied_end(p)
-        } else {
-            implied_start(p)
-        };
-        if implied != given[i] {
-            return false;
-        }
-    }
-    true
+// Are these what `bound` makes of the values that are read?
+fn are_values<F: Fn(i16) -> i16>(given: &[i16], read: Tuple<'_>, bound: F) -> bool
+    requires { F.IsAlwaysCallable bound }
+{
+    given.len() == read.len()
+        && given.iter().enumerate().all(|(i, value)| read
+            .get(i)
+            .is_some_and(|v| bound(v) == *value))
 }
 
 fn bounds_differ(given: GlyphDeltas<'_>, entry: Entry<'_>) -> Option<Difference> {
+    let peak = entry.peak();
     let (starts, ends) = match entry.region() {
         Some(Region { start, end }) => (
-            same_values(given.starts, start),
-            same_values(given.ends, end),
+            are_values(given.starts, start, |v| v),
+            are_values(given.ends, end, |v| v),
         ),
         None => (
-            same_implied(given.starts, entry.peak(), false),
-            same_implied(given.ends, entry.peak(), true),
+            are_values(given.starts, peak, implied_start),
+            are_values(given.ends, peak, implied_end),
         ),
     };
-    if !starts {
-        return Some(Difference::Start);
+    match (starts, ends) {
+        (false, _) => Some(Difference::Start),
+        (true, false) => Some(Difference::End),
+        (true, true) => None,
     }
-    if !ends {
-        return Some(Difference::End);
-    }
-    None
 }
 
 // The first required point from `from` to before `to`.
 fn required_between(deltas: &[GlyphDelta], from: usize, to: usize) -> Option<usize> {
-    for k in from..to.min(deltas.len()) {
-        if deltas[k].required {
-            return Some(k);
-        }
-    }
-    None
+    let passed = deltas.get(from..to)?;
+    passed
+        .iter()
+        .position(|delta| delta.required)
+        .map(|k| from + k)
 }
 
 // Each point found has its delta, and no required point is passed over.
@@ -103,30 +72,23 @@ fn moves_differ(deltas: &[GlyphDelta], entry: Entry<'_>) -> Option<Difference> {
     let mut moves = entry.moves();
     while let Some(m) = moves.next() {
         let point = m.point as usize;
-        if point < next || point >= deltas.len() {
+        let Some(delta) = deltas.get(point).filter(|_| next <= point) else {
+            return Some(Difference::Moved(point));
+        };
+        if let Some(missing) = required_between(deltas, next, point) {
+            return Some(Difference::Missing(missing));
+        }
+        if (delta.x, delta.y) != (m.x, m.y) {
             return Some(Difference::Moved(point));
         }
-        if let Some(k) = required_between(deltas, next, point) {
-            return Some(Difference::Missing(k));
-        }
-        if deltas[point].x != m.x || deltas[point].y != m.y {
-            return Some(Difference::Moved(point));
-        }
-        next = point.saturating_add(1);
+        next = point + 1;
     }
-    match required_between(deltas, next, deltas.len()) {
-        Some(k) => Some(Difference::Missing(k)),
-        None => None,
-    }
+    required_between(deltas, next, deltas.len()).map(Difference::Missing)
 }
 
 pub fn first_difference(given: GlyphDeltas<'_>, entry: Entry<'_>) -> Option<Difference> {
-    if !same_values(given.peak, entry.peak()) {
+    if !are_values(given.peak, entry.peak(), |v| v) {
         return Some(Difference::Peak);
     }
-    let bounds = bounds_differ(given, entry);
-    if bounds.is_some() {
-        return bounds;
-    }
-    moves_differ(given.deltas, entry)
+    bounds_differ(given, entry).or_else(|| moves_differ(given.deltas, entry))
 }

@@ -1,148 +1,89 @@
 // Compiles to the sinks; the table last compiled to a buffer is kept.
 use crate::call::Kind;
 use crate::parity::Parity;
-use crate::show::{show_bytes, show_length};
-use counts::cells::CountCell;
+use crate::session::Session;
+use crate::show::show_refused;
 use gvar::compile::compile;
-use sets::set::Set;
-use std::alloc::{AllocError, Global};
+use printed::bytes::Bytes;
 use std::io;
 use std::io::{BufWriter, Stdout, Write};
 use write::buffer::Buffer;
 use write::checksum::Checksum;
 use write::counter::Counter;
+use write::sink::Sink;
 
 // No table is longer: the glyphs take at most 64 MiB, and offsets and shared peaks less than one more.
 const MOST_BYTES: usize = 68157440;
 
-// A compile that is refused hands nothing over, so the memory keeps the table before it.
+// A table, and how many variations the set had when it was compiled.
 #[derive(Drop)]
 pub struct Kept {
-    memory: Vec<u8>,
-    length: Option<usize>,
-    // how many variations the set had when the table was compiled
-    variations: usize,
+    pub bytes: Vec<u8>,
+    pub variations: usize,
 }
 
-impl Kept {
-    pub fn new(heap: Global) -> Kept {
-        Kept {
-            memory: Vec::new(heap),
-            length: None,
-            variations: 0,
+impl Session<'_> {
+    // Compiles to the sink, and prints the answer; where the table is granted, `show` prints what the sink has then.
+    fn compile_to<S: Sink, F: FnOnce(&mut BufWriter<Stdout>, &S) -> io::Result<()>>(
+        &mut self,
+        line: &str,
+        sink: &mut S,
+        show: F,
+    ) -> io::Result<Option<usize>>
+        requires { F.IsAlwaysCallable show }
+    {
+        let lent = &mut self.lent;
+        let set = &lent.set;
+        match compile(set, lent.counts, sink) {
+            Ok(length) => {
+                writeln!(self.out, "{line}: granted {length}")?;
+                show(self.out, sink)?;
+                Ok(Some(length))
+            }
+            Err(refusal) => {
+                show_refused(self.out, line, refusal)?;
+                Ok(None)
+            }
         }
     }
 
-    // The table, if one was compiled.
-    pub fn table(&self) -> Option<&[u8]> {
-        let Some(length) = self.length else {
-            return None;
-        };
-        let bytes = self.memory.as_slice();
-        let n = length.min(bytes.len());
-        Some(&bytes[0..n])
-    }
-
-    pub fn variations(&self) -> usize {
-        self.variations
-    }
-
-    // The memory has this many bytes at least, as far as a table can use them.
-    fn reserve(&mut self, allowance: usize) -> Result<(), AllocError> {
-        if self.memory.len() < allowance {
-            self.memory.resize(allowance, 0u8)?;
+    // A compile that is refused hands nothing over, so the table before it stays.
+    fn compile_buffer(&mut self, line: &str, allowance: usize) -> anyhow::Result<()> {
+        let mut bytes = vec![in self.alloc; 0u8; allowance.min(MOST_BYTES)]?;
+        let mut buffer = Buffer::new(bytes.as_mut_slice());
+        let granted = self.compile_to(line, &mut buffer, |out, buffer| {
+            writeln!(out, "table{}", Bytes(buffer.taken()))
+        })?;
+        if let Some(length) = granted {
+            bytes.truncate(length);
+            self.kept = Some(Kept {
+                bytes,
+                variations: self.lent.set.variation_count(),
+            });
         }
         Ok(())
     }
-}
 
-fn compile_buffer(
-    out: &mut BufWriter<Stdout>,
-    set: &Set<'_>,
-    cells: &mut [CountCell],
-    kept: &mut Kept,
-    line: &str,
-    allowance: usize,
-) -> anyhow::Result<()> {
-    let n = allowance.min(MOST_BYTES);
-    kept.reserve(n)?;
-    let memory = kept.memory.as_mut_slice();
-    let n = n.min(memory.len());
-    let mut buffer = Buffer::new(&mut memory[0..n]);
-    let answer = compile(set, cells, &mut buffer);
-    if show_length(out, line, answer)? {
-        show_bytes(out, buffer.taken())?;
+    // Compiles to a sink of the kind with the allowance.
+    pub fn compile(&mut self, line: &str, kind: Kind, allowance: usize) -> anyhow::Result<()> {
+        match kind {
+            Kind::Buffer => self.compile_buffer(line, allowance)?,
+            Kind::Counter => {
+                self.compile_to(line, &mut Counter::new(allowance), |out, counter| {
+                    writeln!(out, "taken {}", counter.count())
+                })?;
+            }
+            Kind::Checksum => {
+                self.compile_to(line, &mut Checksum::new(allowance), |out, checksum| {
+                    writeln!(out, "sum {:08X}", checksum.sum())
+                })?;
+            }
+            Kind::Parity => {
+                self.compile_to(line, &mut Parity::new(allowance), |out, parity| {
+                    writeln!(out, "parity {:02X}", parity.bits())
+                })?;
+            }
+        }
+        Ok(())
     }
-    if let Ok(length) = answer {
-        kept.length = Some(length);
-        kept.variations = set.variation_count();
-    }
-    Ok(())
-}
-
-fn compile_counter(
-    out: &mut BufWriter<Stdout>,
-    set: &Set<'_>,
-    cells: &mut [CountCell],
-    line: &str,
-    allowance: usize,
-) -> io::Result<()> {
-    let mut counter = Counter::new(allowance);
-    let answer = compile(set, cells, &mut counter);
-    if show_length(out, line, answer)? {
-        let count = counter.count();
-        writeln!(out, "taken {count}")?;
-    }
-    Ok(())
-}
-
-fn compile_checksum(
-    out: &mut BufWriter<Stdout>,
-    set: &Set<'_>,
-    cells: &mut [CountCell],
-    line: &str,
-    allowance: usize,
-) -> io::Result<()> {
-    let mut checksum = Checksum::new(allowance);
-    let answer = compile(set, cells, &mut checksum);
-    if show_length(out, line, answer)? {
-        let sum = checksum.sum();
-        writeln!(out, "sum {sum:08X}")?;
-    }
-    Ok(())
-}
-
-fn compile_parity(
-    out: &mut BufWriter<Stdout>,
-    set: &Set<'_>,
-    cells: &mut [CountCell],
-    line: &str,
-    allowance: usize,
-) -> io::Result<()> {
-    let mut parity = Parity::new(allowance);
-    let answer = compile(set, cells, &mut parity);
-    if show_length(out, line, answer)? {
-        let bits = parity.bits();
-        writeln!(out, "parity {bits:02X}")?;
-    }
-    Ok(())
-}
-
-// Compiles to a sink of the kind with the allowance, and prints the answer and what the sink has then.
-pub fn run_compile(
-    out: &mut BufWriter<Stdout>,
-    set: &Set<'_>,
-    cells: &mut [CountCell],
-    kept: &mut Kept,
-    line: &str,
-    kind: Kind,
-    allowance: usize,
-) -> anyhow::Result<()> {
-    match kind {
-        Kind::Buffer => compile_buffer(out, set, cells, kept, line, allowance)?,
-        Kind::Counter => compile_counter(out, set, cells, line, allowance)?,
-        Kind::Checksum => compile_checksum(out, set, cells, line, allowance)?,
-        Kind::Parity => compile_parity(out, set, cells, line, allowance)?,
-    }
-    Ok(())
 }

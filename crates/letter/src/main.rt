@@ -4,13 +4,14 @@
 mod call;
 mod compare;
 mod compiling;
-mod lent;
 mod parity;
 mod reading;
-mod run;
+mod script;
+mod session;
 mod show;
+mod sizes;
 
-use run::run_script;
+use script::run_script;
 use std::io::{BufWriter, Read, Write};
 
 // The script that is run where none is given: one letter with one point.
@@ -34,11 +35,12 @@ fn given_script(rt: &HostRuntime) -> anyhow::Result<String> {
 fn run_given(rt: &HostRuntime) -> anyhow::Result<()> {
     let given = given_script(rt)?;
     let mut out = BufWriter::new(rt.alloc(), rt.stdout())?;
-    if given.trim().is_empty() {
-        run_script(&mut out, rt.alloc(), STORED)?;
+    let script = if given.trim().is_empty() {
+        STORED
     } else {
-        run_script(&mut out, rt.alloc(), given.as_str())?;
-    }
+        given.as_str()
+    };
+    run_script(&mut out, rt.alloc(), script)?;
     out.flush()?;
     Ok(())
 }

@@ -1,6 +1,8 @@
 // Reads a glyph of the table back, and compares it with what was handed in.
 use crate::compare::first_difference;
-use crate::show::show_glyph;
+use crate::script::Line;
+use crate::session::Session;
+use printed::glyph::GlyphLines;
 use reader::slot::{Slot, open_glyph};
 use sets::set::Set;
 use sets::view::Span;
@@ -23,25 +25,23 @@ fn compare_glyph(
     out: &mut BufWriter<Stdout>,
     set: &Set<'_>,
     span: Span,
-    slot: Slot<'_>,
+    mut slot: Slot<'_>,
 ) -> io::Result<()> {
     let given = span.count;
     let entries = slot.len();
     if entries as usize != given {
         return writeln!(out, "differs: {given} variations, {entries} entries");
     }
-    let mut slot = slot;
     let mut same = true;
-    for number in 0..entries {
-        let place = span.first.saturating_add(number as usize);
+    for (number, place) in (0..entries).zip(span.first..) {
         let (Some(variation), Some(entry)) = (set.view(place), slot.next()) else {
             same = false;
             writeln!(out, "differs: no entry {number}")?;
             continue;
         };
-        if let Some(d) = first_difference(variation, entry) {
+        if let Some(difference) = first_difference(variation, entry) {
             same = false;
-            writeln!(out, "differs: variation {number}: {d}")?;
+            writeln!(out, "differs: variation {number}: {difference}")?;
         }
     }
     if same {
@@ -50,22 +50,26 @@ fn compare_glyph(
     Ok(())
 }
 
-// The glyph with so many points in the table, which was compiled when the set had so many variations.
-pub fn run_read(
-    out: &mut BufWriter<Stdout>,
-    set: &Set<'_>,
-    table: &[u8],
-    variations: usize,
-    line: &str,
-    glyph: u16,
-    points: u16,
-) -> io::Result<()> {
-    match open_glyph(table, glyph, points) {
-        Ok(slot) => {
-            writeln!(out, "{line}: granted")?;
-            show_glyph(out, glyph, points, slot)?;
-            compare_glyph(out, set, span_within(set, glyph, variations), slot)
-        }
-        Err(fault) => writeln!(out, "{line}: {fault}"),
+impl Session<'_> {
+    // Prints the glyph with so many points of the kept table, and whether it is what was handed in before the compile.
+    pub fn read(&mut self, line: Line<'_>, glyph: u16, points: u16) -> io::Result<()> {
+        let Line { number, text } = line;
+        let Some(kept) = &self.kept else {
+            return writeln!(self.out, "line {number}: no table is compiled to a buffer");
+        };
+        let slot = match open_glyph(kept.bytes.as_slice(), glyph, points) {
+            Ok(slot) => slot,
+            Err(fault) => return writeln!(self.out, "{text}: {fault}"),
+        };
+        writeln!(self.out, "{text}: granted")?;
+        let lines = GlyphLines {
+            glyph,
+            points,
+            slot,
+        };
+        write!(self.out, "{lines}")?;
+        let set = &self.lent.set;
+        let span = span_within(set, glyph, kept.variations);
+        compare_glyph(self.out, set, span, slot)
     }
 }

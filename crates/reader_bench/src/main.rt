@@ -3,6 +3,7 @@
 #![tactic(auto)]
 
 use anyhow::anyhow;
+use reader::fault::Fault;
 use reader::slot::Slot;
 use reader::table::Table;
 use std::alloc::{AllocError, Global};
@@ -23,19 +24,11 @@ const DATA_SIZE: u16 = 261;
 const SLOT_SIZE: u32 = 4276;
 
 // What came of a walk: how many entries and moves, and the sum of all x, less that of all y.
-#[derive(Clone, Copy, PartialEq, Eq, Debug)]
+#[derive(Clone, Copy, PartialEq, Eq, Debug, Default)]
 struct Tally {
     entries: u64,
     moves: u64,
     sum: i64,
-}
-
-fn push_word(table: &mut Vec<u8>, word: u16) -> Result<(), AllocError> {
-    table.extend_from_slice(&word.to_be_bytes())
-}
-
-fn push_long(table: &mut Vec<u8>, long: u32) -> Result<(), AllocError> {
-    table.extend_from_slice(&long.to_be_bytes())
 }
 
 // One run of 64 byte values from `first` on.
@@ -49,12 +42,12 @@ fn push_run(table: &mut Vec<u8>, first: u8) -> Result<(), AllocError> {
 
 // The slot of one glyph: every entry has an embedded peak, and all points.
 fn push_slot(table: &mut Vec<u8>, glyph: u16) -> Result<(), AllocError> {
-    push_word(table, ENTRIES)?;
-    push_word(table, 4 + 6 * ENTRIES)?;
+    table.extend_from_slice(&ENTRIES.to_be_bytes())?;
+    table.extend_from_slice(&(4 + 6 * ENTRIES).to_be_bytes())?;
     for i in 0..ENTRIES {
-        push_word(table, DATA_SIZE)?;
-        push_word(table, 0xA000)?;
-        push_word(table, i.wrapping_mul(1024))?;
+        table.extend_from_slice(&DATA_SIZE.to_be_bytes())?;
+        table.extend_from_slice(&0xA000u16.to_be_bytes())?;
+        table.extend_from_slice(&i.wrapping_mul(1024).to_be_bytes())?;
     }
     for i in 0..ENTRIES {
         table.push(0)?;
@@ -67,18 +60,18 @@ fn push_slot(table: &mut Vec<u8>, glyph: u16) -> Result<(), AllocError> {
 }
 
 // One axis, no shared peak, long offsets.
-fn make_table(heap: Global) -> Result<Vec<u8>, AllocError> {
-    let mut table = Vec::new(heap);
+fn make_table(alloc: Global) -> Result<Vec<u8>, AllocError> {
+    let mut table = Vec::new(alloc);
     let start = 20 + 4 * (GLYPHS as u32 + 1);
-    push_long(&mut table, 0x0001_0000)?;
-    push_word(&mut table, 1)?;
-    push_word(&mut table, 0)?;
-    push_long(&mut table, start)?;
-    push_word(&mut table, GLYPHS)?;
-    push_word(&mut table, 1)?;
-    push_long(&mut table, start)?;
+    table.extend_from_slice(&0x0001_0000u32.to_be_bytes())?;
+    table.extend_from_slice(&1u16.to_be_bytes())?;
+    table.extend_from_slice(&0u16.to_be_bytes())?;
+    table.extend_from_slice(&start.to_be_bytes())?;
+    table.extend_from_slice(&GLYPHS.to_be_bytes())?;
+    table.extend_from_slice(&1u16.to_be_bytes())?;
+    table.extend_from_slice(&start.to_be_bytes())?;
     for glyph in 0..GLYPHS as u32 + 1 {
-        push_long(&mut table, glyph.wrapping_mul(SLOT_SIZE))?;
+        table.extend_from_slice(&glyph.wrapping_mul(SLOT_SIZE).to_be_bytes())?;
     }
     for glyph in 0..GLYPHS {
         push_slot(&mut table, glyph)?;
@@ -86,63 +79,66 @@ fn make_table(heap: Global) -> Result<Vec<u8>, AllocError> {
     Ok(table)
 }
 
-// Adds the entries of a slot.
-fn walk_slot(tally: &mut Tally, slot: Slot<'_>) {
-    for entry in slot {
-        tally.entries = tally.entries.wrapping_add(1);
-        for m in entry.moves() {
-            tally.moves = tally.moves.wrapping_add(1);
-            tally.sum = tally.sum.wrapping_add(m.x as i64).wrapping_sub(m.y as i64);
+impl Tally {
+    // Adds the entries of a slot.
+    fn add(&mut self, slot: Slot<'_>) {
+        for entry in slot {
+            self.entries = self.entries.wrapping_add(1);
+            for m in entry.moves() {
+                self.moves = self.moves.wrapping_add(1);
+                self.sum = self.sum.wrapping_add(m.x as i64).wrapping_sub(m.y as i64);
+            }
         }
     }
 }
 
-// Checks the table and every slot; with `deep`, walks every move as well.
-fn read_table(bytes: &[u8], deep: bool) -> Option<Tally> {
-    let Ok(table) = Table::check(bytes) else {
-        return None;
-    };
-    let mut tally = Tally {
-        entries: 0,
-        moves: 0,
-        sum: 0,
-    };
+// Checks the table and every slot, and adds to the tally what `visit` makes of each.
+fn read_table<F: Fn(&mut Tally, Slot<'_>)>(bytes: &[u8], visit: F) -> Result<Tally, Fault>
+    requires { F.IsAlwaysCallable visit }
+{
+    let table = Table::check(bytes)?;
+    let mut tally = Tally::default();
     for glyph in 0..table.glyph_count() {
-        let Ok(slot) = table.slot(glyph, POINTS) else {
-            return None;
-        };
-        if deep {
-            walk_slot(&mut tally, slot);
-        }
+        visit(&mut tally, table.slot(glyph, POINTS)?);
     }
-    Some(tally)
+    Ok(tally)
 }
 
 // The speed of so many rounds goes to standard error.
-fn measure(rt: &HostRuntime, bytes: &[u8], deep: bool, name: &str) -> anyhow::Result<Tally> {
+fn measure<F: Fn(&mut Tally, Slot<'_>) + Copy>(
+    rt: &HostRuntime,
+    bytes: &[u8],
+    name: &str,
+    visit: F,
+) -> anyhow::Result<Tally>
+    requires { F.IsAlwaysCallable visit }
+{
     let start = Instant::now(rt)?;
-    let mut last = None;
+    let mut last = Ok(Tally::default());
     for _ in 0..ROUNDS {
-        last = read_table(bytes, deep);
+        last = read_table(bytes, visit);
     }
     let micros = start.elapsed(rt)?.as_micros();
     let all = bytes.len() as u128 * ROUNDS as u128;
     let speed = all / micros.max(1);
     eprintln!(rt; "{name}: {all} bytes in {micros} microseconds, {speed} MB/s")?;
-    match last {
-        Some(tally) => Ok(tally),
-        None => Err(anyhow!("the table was refused")),
-    }
+    last.map_err(|fault| anyhow!("the table was {fault}"))
 }
 
 fn run(rt: &HostRuntime) -> anyhow::Result<()> {
     let table = make_table(rt.alloc())?;
     let bytes = table.len();
-    measure(rt, table.as_slice(), false, "check")?;
-    let tally = measure(rt, table.as_slice(), true, "check and walk")?;
-    let entries = tally.entries;
-    let moves = tally.moves;
-    let sum = tally.sum;
+    measure(rt, table.as_slice(), "check", |_, _| {})?;
+    let Tally {
+        entries,
+        moves,
+        sum,
+    } = measure(
+        rt,
+        table.as_slice(),
+        "check and walk",
+        |tally, slot| tally.add(slot),
+    )?;
     println!(rt; "{bytes} bytes, {entries} entries, {moves} moves, sum {sum}")?;
     Ok(())
 }

@@ -1,29 +1,67 @@
-// The tables that the cases start from.
-use std::alloc::{AllocError, Global};
+// A case: a table, the damage to it, and the glyph that is asked for.
+use anyhow::{Context, bail};
+use std::alloc::Global;
+use std::collections::BTreeMap;
+use std::fmt;
 
-#[derive(Drop)]
-pub struct Base {
-    pub name: String,
-    pub bytes: Vec<u8>,
+// The tables that the cases start from, by their names.
+pub type Tables = BTreeMap<String, Vec<u8>>;
+
+#[derive(Clone, Copy)]
+pub struct Case<'a> {
+    name: &'a str,
+    length: usize,
+    pub glyph: u16,
+    pub points: u16,
+    // places, each with the byte put there
+    damage: &'a [&'a str],
 }
 
-// So many bytes of the table with this name; 00 past its end.
-pub fn damaged(
-    heap: Global,
-    bases: &[Base],
-    name: &str,
-    length: usize,
-) -> Result<Vec<u8>, AllocError> {
-    let mut bytes = Vec::new(heap);
-    for base in bases {
-        if base.name.as_str() == name {
-            for b in base.bytes.as_slice() {
-                if bytes.len() < length {
-                    bytes.push(*b)?;
-                }
+impl<'a> Case<'a> {
+    // The words NAME LENGTH GLYPH POINTS, with places and the bytes put there.
+    pub fn of(words: &'a [&'a str]) -> anyhow::Result<Case<'a>> {
+        let [name, length, glyph, points, damage @ ..] = words else {
+            bail!("a case has no points");
+        };
+        Ok(Case {
+            name,
+            length: length.parse::<usize>()?,
+            glyph: glyph.parse::<u16>()?,
+            points: points.parse::<u16>()?,
+            damage,
+        })
+    }
+
+    // So many bytes of the table, 00 past its end, with the damage.
+    pub fn bytes(&self, alloc: Global, tables: &Tables) -> anyhow::Result<Vec<u8>> {
+        let table = tables.get(self.name).context("there is no such table")?;
+        let mut bytes = Vec::from_slice(alloc, table.as_slice())?;
+        bytes.resize(self.length, 0)?;
+        for pair in self.damage.chunks(2) {
+            let [place, byte] = pair else {
+                bail!("a place has no byte");
+            };
+            if let Some(at) = bytes.get_mut(place.parse::<usize>()?) {
+                *at = u8::from_str_radix(byte, 16)?;
             }
         }
+        Ok(bytes)
     }
-    bytes.resize(length, 0)?;
-    Ok(bytes)
+}
+
+impl fmt::Display for Case<'_> {
+    fn fmt<W: fmt::Write>(&self, f: &mut fmt::Formatter<W>) -> fmt::Result {
+        let Case {
+            name,
+            length,
+            glyph,
+            points,
+            damage,
+        } = *self;
+        write!(f, "{name} {length} {glyph} {points}")?;
+        for word in damage {
+            write!(f, " {word}")?;
+        }
+        Ok(())
+    }
 }

@@ -1,6 +1,8 @@
 // Values and points, packed and read back.
-use anyhow::anyhow;
+use anyhow::Context;
+use printed::bytes::Bytes;
 use streams::deltas::DeltaCursor;
+use streams::fault::StreamFault;
 use streams::points::{PointCursor, read_count};
 use variations::delta::{Coordinate, GlyphDelta};
 use variations::deltas::PackedDeltas;
@@ -8,101 +10,114 @@ use variations::points::PackedPointNumbers;
 use write::buffer::Buffer;
 use write::piece::FontWrite;
 
-fn print_bytes(rt: &HostRuntime, bytes: &[u8]) -> anyhow::Result<()> {
-    for b in bytes {
-        let b = *b;
-        print!(rt; " {b:02X}")?;
+// How many items are read back in order, and the place past them.
+#[derive(Clone, Copy)]
+struct Back {
+    same: usize,
+    past: usize,
+}
+
+// How many of the items `next` gives in order; none if it fails or gives more of them or fewer.
+fn same_items<T: PartialEq + Copy, F: FnMut() -> Result<Option<T>, StreamFault>>(
+    items: &[T],
+    mut next: F,
+) -> Option<usize>
+    requires { F.IsAlwaysCallable next }
+{
+    let mut same = 0usize;
+    for item in items {
+        if next().ok()?? == *item {
+            same = same.saturating_add(1);
+        }
+    }
+    match next().ok()? {
+        Some(_) => None,
+        None => Some(same),
+    }
+}
+
+// Prints the bytes, and how much of them `back` reads back.
+fn show_bytes<F: FnOnce(&[u8]) -> Option<Back>>(
+    rt: &HostRuntime,
+    bytes: &[u8],
+    back: F,
+) -> anyhow::Result<()>
+    requires { F.IsAlwaysCallable back }
+{
+    print!(rt; "{}", Bytes(bytes))?;
+    match back(bytes) {
+        Some(Back { same, past }) => println!(rt; "; {same} read back to {past}")?,
+        None => println!(rt; "; not read back")?,
     }
     Ok(())
 }
 
-// How many of the values a stream gives back in order, with the place past it.
-fn deltas_back(bytes: &[u8], values: &[i16]) -> Option<(usize, usize)> {
+// Prints the size of the piece, and its bytes with what is read back of them.
+fn show_piece<P: FontWrite, F: FnOnce(&[u8]) -> Option<Back>>(
+    rt: &HostRuntime,
+    piece: &P,
+    back: F,
+) -> anyhow::Result<()>
+    requires { F.IsAlwaysCallable back }
+{
+    let size = piece.size();
+    print!(rt; ", {size} bytes:")?;
+    let mut memory = [0xEE; 256];
+    let mut buffer = Buffer::new(&mut memory);
+    piece
+        .write_into(&mut buffer)
+        .ok()
+        .context("the buffer is full")?;
+    show_bytes(rt, buffer.taken(), back)
+}
+
+fn deltas_back(bytes: &[u8], values: &[i16]) -> Option<Back> {
     let count = u16::try_from(values.len()).ok()?;
     let mut cursor = DeltaCursor::new(bytes, 0, count);
-    let mut same = 0usize;
-    for v in values {
-        if cursor.next().ok()?? == *v {
-            same = same.saturating_add(1);
-        }
-    }
-    if cursor.next().ok()?.is_some() {
-        return None;
-    }
-    Some((same, cursor.place()))
+    let same = same_items(values, || cursor.next())?;
+    let past = cursor.place();
+    Some(Back { same, past })
 }
 
 // The values as the x of required deltas.
 pub fn show_deltas(rt: &HostRuntime, values: &[i16]) -> anyhow::Result<()> {
-    let mut deltas = Vec::new(rt.alloc());
-    for v in values {
-        let _ = deltas.push(GlyphDelta::required(*v, 0));
-    }
+    let deltas: Vec<GlyphDelta> = values
+        .iter()
+        .map(|x| GlyphDelta::required(*x, 0))
+        .collect(rt.alloc())?;
     let piece = PackedDeltas {
         deltas: deltas.as_slice(),
         coordinate: Coordinate::X,
         all: true,
     };
-    let size = piece.size();
-    let mut memory = [0xEE; 256];
-    let mut buffer = Buffer::new(&mut memory);
-    if piece.write_into(&mut buffer).is_err() {
-        return Err(anyhow!("the buffer is full"));
-    }
-    let bytes = buffer.taken();
-    let n = values.len();
-    print!(rt; "{n} deltas, {size} bytes:")?;
-    print_bytes(rt, bytes)?;
-    match deltas_back(bytes, values) {
-        Some((same, past)) => println!(rt; "; {same} read back to {past}")?,
-        None => println!(rt; "; not read back")?,
-    }
-    Ok(())
+    print!(rt; "{} deltas", values.len())?;
+    show_piece(rt, &piece, |bytes| deltas_back(bytes, values))
 }
 
-// How many of the points a stream gives back in order, with the place past it.
-fn points_back(bytes: &[u8], p: u16, points: &[u16]) -> Option<(usize, usize)> {
+fn points_back(bytes: &[u8], p: u16, points: &[u16]) -> Option<Back> {
     let head = read_count(bytes, 0).ok()?;
     if head.count == 0 {
-        return Some((0, head.past));
+        return Some(Back {
+            same: 0,
+            past: head.past,
+        });
     }
     let mut cursor = PointCursor::new(bytes, head.past, p, head.count);
-    let mut same = 0usize;
-    for q in points {
-        if cursor.next().ok()?? == *q {
-            same = same.saturating_add(1);
-        }
-    }
-    if cursor.next().ok()?.is_some() {
-        return None;
-    }
-    Some((same, cursor.place()))
+    let same = same_items(points, || cursor.next())?;
+    let past = cursor.place();
+    Some(Back { same, past })
 }
 
 // The points as those of p deltas that are required.
 pub fn show_points(rt: &HostRuntime, p: u16, points: &[u16]) -> anyhow::Result<()> {
-    let mut deltas = Vec::new(rt.alloc());
-    for q in 0..p {
-        if points.contains(&q) {
-            let _ = deltas.push(GlyphDelta::required(0, 0));
-        } else {
-            let _ = deltas.push(GlyphDelta::optional(0, 0));
-        }
-    }
+    let deltas: Vec<GlyphDelta> = (0..p)
+        .map(|q| GlyphDelta {
+            x: 0,
+            y: 0,
+            required: points.contains(&q),
+        })
+        .collect(rt.alloc())?;
     let piece = PackedPointNumbers::Required(deltas.as_slice());
-    let size = piece.size();
-    let mut memory = [0xEE; 256];
-    let mut buffer = Buffer::new(&mut memory);
-    if piece.write_into(&mut buffer).is_err() {
-        return Err(anyhow!("the buffer is full"));
-    }
-    let bytes = buffer.taken();
-    let n = points.len();
-    print!(rt; "{n} points of {p}, {size} bytes:")?;
-    print_bytes(rt, bytes)?;
-    match points_back(bytes, p, points) {
-        Some((same, past)) => println!(rt; "; {same} read back to {past}")?,
-        None => println!(rt; "; not read back")?,
-    }
-    Ok(())
+    print!(rt; "{} points of {p}", points.len())?;
+    show_piece(rt, &piece, |bytes| points_back(bytes, p, points))
 }

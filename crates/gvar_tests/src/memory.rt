@@ -1,0 +1,81 @@
+// The memory that the cases lend.
+use crate::words::parsed;
+use counts::cells::CountCell;
+use counts::peaks::Peaks;
+use counts::table::CountTable;
+use lent::memory::{Memory, Sizes};
+use sets::cells::{GlyphCell, VariationCell};
+use std::alloc::{AllocError, Global};
+use std::str::SplitWhitespace;
+use tuples::choice::StoredPoints;
+use variations::delta::GlyphDelta;
+
+// A cell that seems to be in use, with links to other cells.
+fn odd_glyph(i: usize) -> GlyphCell {
+    GlyphCell {
+        number: (i % 5) as u16,
+        variations: 65535,
+        first: usize::MAX,
+        head: i % 3 + 1,
+        next: i % 4 + 1,
+    }
+}
+
+fn odd_variation() -> VariationCell {
+    VariationCell {
+        deltas: 65535,
+        start: usize::MAX,
+        stored: StoredPoints {
+            all: true,
+            points: usize::MAX,
+            values: 12345,
+        },
+    }
+}
+
+// The words GLYPHS VARIATIONS VALUES DELTAS, `blank` or `odd`, and COUNTS.
+pub fn read_memory(alloc: Global, words: &mut SplitWhitespace<'_>) -> anyhow::Result<Memory> {
+    let glyphs = parsed::<usize>(words)?;
+    let variations = parsed::<usize>(words)?;
+    let values = parsed::<usize>(words)?;
+    let deltas = parsed::<usize>(words)?;
+    let odd = words.next() == Some("odd");
+    let counts = used_cells(alloc, parsed::<usize>(words)?)?;
+    if odd {
+        Ok(Memory {
+            glyphs: (0..glyphs).map(odd_glyph).collect(alloc)?,
+            variations: vec![in alloc; odd_variation(); variations]?,
+            values: vec![in alloc; -7; values]?,
+            deltas: vec![in alloc; GlyphDelta::required(-7, -7); deltas]?,
+            counts,
+        })
+    } else {
+        let blank = Memory::blank(
+            alloc,
+            Sizes {
+                glyphs,
+                variations,
+                values,
+                deltas,
+                counts: 0,
+            },
+        )?;
+        Ok(Memory { counts, ..blank })
+    }
+}
+
+// Count cells as a count of so many peaks leaves them, all of them different up to 65,536.
+fn used_cells(alloc: Global, count: usize) -> Result<Vec<CountCell>, AllocError> {
+    let mut values = Vec::new(alloc);
+    let mut value: i16 = 0;
+    for _ in 0..count {
+        values.extend_from_slice(&[value, 0, 0])?;
+        value = value.wrapping_add(1);
+    }
+    let mut cells = vec![in alloc; CountCell::zeros(); count]?;
+    let peaks = Peaks::over(values.as_slice(), 1, count);
+    let mut table = CountTable::over(cells.as_mut_slice());
+    let _ = table.fill(&peaks);
+    let _ = table.rank(&peaks);
+    Ok(cells)
+}

@@ -1,0 +1,32 @@
+// A glyph of a table as text.
+use crate::moves::MoveLines;
+use crate::tents::Tents;
+use reader::slot::Slot;
+use std::fmt;
+
+// A glyph that has so many points, with its entries and their moves, each on a line.
+#[derive(Clone, Copy)]
+pub struct GlyphLines<'a> {
+    pub glyph: u16,
+    pub points: u16,
+    pub slot: Slot<'a>,
+}
+
+impl fmt::Display for GlyphLines<'_> {
+    fn fmt<W: fmt::Write>(&self, f: &mut fmt::Formatter<W>) -> fmt::Result {
+        let GlyphLines {
+            glyph,
+            points,
+            mut slot,
+        } = *self;
+        let entries = slot.len();
+        writeln!(f, "glyph {glyph} points {points} entries {entries}")?;
+        for number in 0..entries {
+            if let Some(entry) = slot.next() {
+                writeln!(f, "entry {number} {}", Tents(entry))?;
+                write!(f, "{}", MoveLines(entry))?;
+            }
+        }
+        Ok(())
+    }
+}

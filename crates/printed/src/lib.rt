@@ -1,0 +1,7 @@
+// Text for what a table holds: bytes, the tents and the moves of an entry, and a glyph.
+#![tactic(auto)]
+
+pub mod bytes;
+pub mod glyph;
+pub mod moves;
+pub mod tents;

@@ -1,5 +1,0 @@
-use Rattle.reader.specs.MoveWalks.{moves_bound}
-use Rattle.reader_tests.proofs.answer.show_moves.Given as goal
-
-abbrev pub decreases-loop-m : goal.decreases-loop-m
-decreases-loop-m l = moves_bound l.moves
