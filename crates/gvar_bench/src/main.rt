@@ -8,10 +8,10 @@ use lent::memory::{Memory, Opened, Sizes};
 use sets::axis::AxisCount;
 use sets::refusal::Refusal;
 use sets::set::Set;
-use sets::tent::Tent;
 use std::alloc::{AllocError, Global};
 use std::env;
 use std::time::Instant;
+use tents::tent::Tent;
 use variations::delta::GlyphDelta;
 use write::buffer::Buffer;
 

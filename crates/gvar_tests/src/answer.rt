@@ -36,10 +36,6 @@ pub fn show_compiled(
     }
 }
 
-fn is_same(a: &CountCell, b: &CountCell) -> bool {
-    a.rank() == b.rank() && a.order() == b.order() && a.is_marked() == b.is_marked()
-}
-
 // What became of the count cells at a compile.
 #[derive(Clone, Copy)]
 pub enum Cells {
@@ -50,10 +46,9 @@ pub enum Cells {
 
 impl Cells {
     pub fn since(before: &[CountCell], after: &[CountCell]) -> Cells {
-        let zeros = CountCell::zeros();
-        if after.iter().all(|cell| is_same(cell, &zeros)) {
+        if after.iter().all(|cell| *cell == CountCell::zeros()) {
             Cells::Zeros
-        } else if before.iter().zip(after).all(|(b, a)| is_same(b, a)) {
+        } else if before == after {
             Cells::Same
         } else {
             Cells::Changed

@@ -4,10 +4,10 @@ use crate::words::parsed;
 use anyhow::bail;
 use lent::memory::Opened;
 use sets::refusal::Refusal;
-use sets::tent::{Bounds, Tent};
 use std::alloc::Global;
 use std::io::{BufWriter, Stdout, Write};
 use std::str::SplitWhitespace;
+use tents::tent::{Bounds, Tent};
 use variations::delta::GlyphDelta;
 
 #[derive(Drop)]

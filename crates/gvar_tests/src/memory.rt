@@ -5,7 +5,7 @@ use counts::peaks::Peaks;
 use counts::table::CountTable;
 use lent::memory::{Memory, Sizes};
 use sets::cells::{GlyphCell, VariationCell};
-use std::alloc::{AllocError, Global};
+use std::alloc::Global;
 use std::str::SplitWhitespace;
 use tuples::choice::StoredPoints;
 use variations::delta::GlyphDelta;
@@ -16,8 +16,8 @@ fn odd_glyph(i: usize) -> GlyphCell {
         number: (i % 5) as u16,
         variations: 65535,
         first: usize::MAX,
-        head: i % 3 + 1,
-        next: i % 4 + 1,
+        head: Some(i % 3),
+        next: Some(i % 4),
     }
 }
 
@@ -65,7 +65,7 @@ pub fn read_memory(alloc: Global, words: &mut SplitWhitespace<'_>) -> anyhow::Re
 }
 
 // Count cells as a count of so many peaks leaves them, all of them different up to 65,536.
-fn used_cells(alloc: Global, count: usize) -> Result<Vec<CountCell>, AllocError> {
+fn used_cells(alloc: Global, count: usize) -> anyhow::Result<Vec<CountCell>> {
     let mut values = Vec::new(alloc);
     let mut value: i16 = 0;
     for _ in 0..count {
@@ -75,7 +75,7 @@ fn used_cells(alloc: Global, count: usize) -> Result<Vec<CountCell>, AllocError>
     let mut cells = vec![in alloc; CountCell::zeros(); count]?;
     let peaks = Peaks::over(values.as_slice(), 1, count);
     let mut table = CountTable::over(cells.as_mut_slice());
-    let _ = table.fill(&peaks);
+    table.fill(&peaks)?;
     let _ = table.rank(&peaks);
     Ok(cells)
 }

@@ -8,6 +8,7 @@ use counts::cells::CountCell;
 use sets::axis::AxisCount;
 use sets::cells::{GlyphCell, VariationCell};
 use sets::set::Set;
+use sets::stores::Stores;
 use std::alloc::{AllocError, Global};
 use variations::delta::GlyphDelta;
 
@@ -60,10 +61,12 @@ impl Memory {
         Opened {
             set: Set::open(
                 axes,
-                self.glyphs.as_mut_slice(),
-                self.variations.as_mut_slice(),
-                self.values.as_mut_slice(),
-                self.deltas.as_mut_slice(),
+                Stores {
+                    glyphs: self.glyphs.as_mut_slice(),
+                    variations: self.variations.as_mut_slice(),
+                    values: self.values.as_mut_slice(),
+                    deltas: self.deltas.as_mut_slice(),
+                },
             ),
             counts: self.counts.as_mut_slice(),
         }

@@ -1,9 +1,9 @@
 // A call, as a line of a script gives it.
 use lent::memory::Sizes;
-use sets::tent::{Bounds, Tent};
 use std::alloc::{AllocError, Global};
 use std::num::ParseIntError;
 use std::str::FromStr;
+use tents::tent::{Bounds, Tent};
 use thiserror::Error;
 use variations::delta::GlyphDelta;
 

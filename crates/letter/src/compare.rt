@@ -69,8 +69,7 @@ fn required_between(deltas: &[GlyphDelta], from: usize, to: usize) -> Option<usi
 // Each point found has its delta, and no required point is passed over.
 fn moves_differ(deltas: &[GlyphDelta], entry: Entry<'_>) -> Option<Difference> {
     let mut next = 0usize;
-    let mut moves = entry.moves();
-    while let Some(m) = moves.next() {
+    for m in entry.moves() {
         let point = m.point as usize;
         let Some(delta) = deltas.get(point).filter(|_| next <= point) else {
             return Some(Difference::Moved(point));

@@ -2,18 +2,19 @@
 ghost use Rattle.std.specs.Prelude.{[], ◌∷◌};
 ghost use Rattle.letter.specs.Parity.{mixed};
 
+use write::allowance::Allowance;
 use write::sink::{Sink, SinkError};
 
 #[derive(Drop)]
 pub struct Parity {
-    left: usize,
+    left: Allowance,
     bits: u8,
 }
 
 impl Parity {
     pub fn new(allowance: usize) -> Parity {
         Parity {
-            left: allowance,
+            left: Allowance::new(allowance),
             bits: 0,
         }
     }
@@ -29,15 +30,11 @@ impl Sink for Parity {
     ghost step = { mixed };
 
     fn allowance(&self) -> usize {
-        self.left
+        self.left.left()
     }
 
     fn take(&mut self, bytes: &[u8]) -> Result<(), SinkError> {
-        let n = bytes.len();
-        if n > self.left {
-            return Err(SinkError::Full);
-        }
-        self.left -= n;
+        self.left.spend(bytes.len())?;
         for b in bytes {
             self.bits = self.bits ^ *b;
         }

@@ -5,14 +5,7 @@ use std::io::{BufWriter, Stdout, Write};
 
 // The line with what it was refused with: number and layer, then glyph and variation as far as they are concerned.
 pub fn show_refused(out: &mut BufWriter<Stdout>, line: &str, refusal: Refusal) -> io::Result<()> {
-    write!(out, "{line}: refused {} set", refusal.number())?;
-    if let Some(glyph) = refusal.glyph() {
-        write!(out, " glyph {glyph}")?;
-    }
-    if let Some(variation) = refusal.variation() {
-        write!(out, " variation {variation}")?;
-    }
-    writeln!(out, "")
+    writeln!(out, "{line}: {refusal}")
 }
 
 pub fn show_answer(

@@ -17,15 +17,13 @@ impl fmt::Display for GlyphLines<'_> {
         let GlyphLines {
             glyph,
             points,
-            mut slot,
+            slot,
         } = *self;
         let entries = slot.len();
         writeln!(f, "glyph {glyph} points {points} entries {entries}")?;
-        for number in 0..entries {
-            if let Some(entry) = slot.next() {
-                writeln!(f, "entry {number} {}", Tents(entry))?;
-                write!(f, "{}", MoveLines(entry))?;
-            }
+        for (number, entry) in slot.enumerate() {
+            writeln!(f, "entry {number} {}", Tents(entry))?;
+            write!(f, "{}", MoveLines(entry))?;
         }
         Ok(())
     }

@@ -8,8 +8,7 @@ pub struct MoveLines<'a>(pub Entry<'a>);
 
 impl fmt::Display for MoveLines<'_> {
     fn fmt<W: fmt::Write>(&self, f: &mut fmt::Formatter<W>) -> fmt::Result {
-        let mut moves = self.0.moves();
-        while let Some(m) = moves.next() {
+        for m in self.0.moves() {
             writeln!(f, "move {} {} {}", m.point, m.x, m.y)?;
         }
         Ok(())

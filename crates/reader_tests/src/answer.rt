@@ -11,8 +11,7 @@ struct Moves<'a>(Entry<'a>);
 
 impl fmt::Display for Moves<'_> {
     fn fmt<W: fmt::Write>(&self, f: &mut fmt::Formatter<W>) -> fmt::Result {
-        let mut moves = self.0.moves();
-        while let Some(m) = moves.next() {
+        for m in self.0.moves() {
             write!(f, " {}:{}:{}", m.point, m.x, m.y)?;
         }
         Ok(())
@@ -25,16 +24,14 @@ pub fn show_answer(
     glyph: u16,
     points: u16,
 ) -> io::Result<()> {
-    let mut slot = match open_glyph(bytes, glyph, points) {
+    let slot = match open_glyph(bytes, glyph, points) {
         Ok(slot) => slot,
         Err(fault) => return write!(out, "{fault}"),
     };
     let entries = slot.len();
     write!(out, "entries {entries}")?;
-    for _ in 0..entries {
-        if let Some(entry) = slot.next() {
-            write!(out, " | {} moves{}", Tents(entry), Moves(entry))?;
-        }
+    for entry in slot {
+        write!(out, " | {} moves{}", Tents(entry), Moves(entry))?;
     }
     Ok(())
 }
