@@ -4,6 +4,7 @@ use Rattle.format.specs.Glyphs.{point_sets, same_set}
 use Rattle.counts.specs.declared.cells.CountCell.{CountCell}
 use Rattle.counts.specs.Cells.{marked_at}
 use Rattle.counts.specs.Tables.{Filled}
+use Rattle.sets.specs.OfSet.{glyphs_of}
 use Rattle.counting.specs.Counted.{marks}
 use Rattle.counting.specs.Marked.{KeepsRanks}
 use Rattle.counting.specs.PointSets.{spanned}
@@ -15,18 +16,18 @@ use Rattle.counting.proofs.counting.mark_part.Goals as goal
 pub returns : goal.returns
 returns c =
     let p = c.args.points.now in
-    let vs = spanned p.set.now p.first p.count in
+    let vs = spanned (glyphs_of p.set.now) p.span in
     let start = c.over-table.result.cells.now in
     let filling = c.fill.new.self.cells.now in
     let end = c.mark_best.new.self.cells.now in
     let same : start ≡ c.args.cells.now = ap (λ (r : MutBor (List CountCell)). r.now) c.over-table.ensures in
-    let long : p.count ≤ length start = subst (λ (x : List CountCell). p.count ≤ length x) (sym same) c.requires in
-    let filled : Filled (same_set (point_sets vs)) p.count filling = c.fill.ensures.filled (c.fill.ensures.refuses ∙ le-leb p.count (length start) long) in
-    let m : (i : ℕ) → i < p.count → marked_at end i ≡ get_or (marks vs) i false =
-    λ i l. c.mark_best.ensures.marks filled i l ∙ marks_are vs p.count i (sym (spanned_long p.set.now p.first p.count i l p.within)) l in
+    let long : p.span.count ≤ length start = subst (λ (x : List CountCell). p.span.count ≤ length x) (sym same) c.requires in
+    let filled : Filled (same_set (point_sets vs)) p.span.count filling = c.fill.ensures.filled (c.fill.ensures.refuses ∙ le-leb p.span.count (length start) long) in
+    let m : (i : ℕ) → i < p.span.count → marked_at end i ≡ get_or (marks vs) i false =
+    λ i l. c.mark_best.ensures.marks filled i l ∙ marks_are vs p.span.count i (sym (spanned_long (glyphs_of p.set.now) p.span i l p.within)) l in
     let r : KeepsRanks c.args.cells.now end =
     subst (λ (x : List CountCell). KeepsRanks x end) same
-    (keeps_more start filling end (keeps_filled p.count start filling c.fill.ensures.rest) (keeps_marked p.count filling end c.mark_best.ensures.rest)) in
+    (keeps_more start filling end (keeps_filled p.span.count start filling c.fill.ensures.rest) (keeps_marked p.span.count filling end c.mark_best.ensures.rest)) in
     record {
       marks = λ i l. subst (λ (x : List CountCell). marked_at x i ≡ get_or (marks vs) i false) (search rules) (m i l);
       rest = subst (λ (x : List CountCell). KeepsRanks c.args.cells.now x) (search rules) r;
