@@ -10,7 +10,7 @@ use Rattle.sets.specs.declared.view.GlyphDeltas.{GlyphDeltas}
 use Rattle.sets.specs.declared.view.Span.{Span}
 use Rattle.sets.specs.Views.{all_variations, no_variation, Shows}
 use Rattle.counting.specs.PointSets.{spanned, sets_of}
-use Rattle.counting.proofs.Packed.{stored_most}
+use Rattle.counting.proofs.Packed.{points_most}
 
 kept_is : (b : Bool) (ds : List Delta) → kept_points b ds ≡ cond b every (only (required_from 0 ds))
 kept_is true ds = refl
@@ -45,7 +45,7 @@ module _ (gs : List Glyph) (p : Span) (i : ℕ) (l : i < p.count) (within : p.fi
 
   pub size_most : (a : ℕ) (r : GlyphDeltas) → Shows a r shown → r.stored.points ≤ 98303
   size_most a r h =
-      let m = stored_most shown.deltas in
+      let m = points_most shown.deltas in
       let e = h.stored.points_are in
       let d = length-map r.deltas.now delta_of in
       let k = ap length h.deltas in

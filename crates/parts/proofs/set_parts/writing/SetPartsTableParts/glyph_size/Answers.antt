@@ -6,5 +6,5 @@ use Rattle.parts.proofs.set_parts.writing.SetPartsTableParts.glyph_size.Goals as
 pub returns : goal.returns
 unfolding glyph_at
 returns c =
-    let s = c.store_of-store.ensures in
+    let s = c.store_of.ensures in
     record { is = c.exact_size.ensures.size ∙ (λ i. length (glyph_bytes (s.peaks i) (s.variations i))); small = c.exact_size.ensures.most }

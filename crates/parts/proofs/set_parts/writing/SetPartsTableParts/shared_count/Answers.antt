@@ -10,7 +10,7 @@ unfolding parts_axes parts_glyphs
 returns c =
     let p = c.args.self.now in
     let s = p.set.now in
-    let e : p.peaks ≡ peak_count (glyphs_of s) = p.counted ∙ count_is (glyphs_of s) in
+    let e : p.peaks ≡ peak_count (glyphs_of s) = p.shared ∙ count_is (glyphs_of s) in
     record {
       is = e;
       few = subst (λ (n : ℕ). n ≤ 4095) (sym e) (count_few (glyphs_of s));
