@@ -1,5 +1,5 @@
 -- One item more in the cells. Assumes nothing.
-use Rattle.std.proofs.Common.{◌≡◌, ℕ, ◌+◌, ◌-◌, ◌%◌, ◌<◌, ◌≤◌, Bool, true, false, ◌≢◌, List, length, sym, ap, ◌∙◌, subst, inl, inr, arith}
+use Rattle.std.proofs.Common.{◌≡◌, ℕ, ◌+◌, ◌%◌, ◌<◌, ◌≤◌, Bool, true, false, ◌≢◌, List, length, Some, None, Option, sym, ap, ◌∙◌, subst, inl, inr, arith}
 use Rattle.std.proofs.lemmas.Bool.{cases_eq}
 use Rattle.format.specs.Ranked.{first, count_below}
 use Rattle.format.proofs.Counts.{count_none}
@@ -7,7 +7,7 @@ use Rattle.counts.specs.declared.cells.CountCell.{CountCell}
 use Rattle.counts.specs.Sameness.{Sameness}
 use Rattle.counts.specs.Cells.{first_at, count_at, head_at, next_at, entered, chained}
 use Rattle.counts.specs.Tables.{Filled}
-use Rattle.counts.specs.Chains.{Link, State}
+use Rattle.counts.specs.Chains.{Chained, Latest, Link, State}
 use Rattle.counts.proofs.Steps.{entered_here, entered_first, entered_head, entered_next, entered_joined, entered_new, entered_count, entered_leaves, chained_first, chained_count, chained_next, chained_nexts, chained_head, chained_heads, chained_leaves}
 use Rattle.counts.proofs.Classes.{refuted, count_le, count_yes, count_no, first_is_least, first_inside, first_alike, first_le, first_same, first_first, count_first}
 
@@ -65,13 +65,18 @@ module _ {alike : ℕ → ℕ → Bool} {code : ℕ → ℕ} {n : ℕ} (s : Same
     ]
 
     -- a link that stays, past an item that is in another bucket or not a first item
-    link_more : (b x : ℕ) → Link alike code n b i x → (first n alike i ≡ i → code i % n ≡ b → ⊥) → Link alike code n b (i + 1) x
-    link_more b x l out = record {
-      all = λ g lg own at. elim (cases_eq g i) [
-        | inl e ↦ absurd (out (subst (λ (y : ℕ). first n alike y ≡ y) e own) (subst (λ (y : ℕ). code y % n ≡ b) e at))
-        | inr ne ↦ l.all g (omega arith) own at
+    link_more : (b : ℕ) (x : Option ℕ) → Link alike code n b i x → (Chained alike code n b i → ⊥) → Link alike code n b (i + 1) x
+    link_more b None none out = λ g lg c. elim (cases_eq g i) [
+      | inl e ↦ out (subst (Chained alike code n b) e c)
+      | inr ne ↦ none g (omega arith) c
+    ]
+    link_more b (Some j) l out = record {
+      inside = omega (arith, l.inside);
+      chained = l.chained;
+      last = λ g lg c. elim (cases_eq g i) [
+        | inl e ↦ absurd (out (subst (Chained alike code n b) e c))
+        | inr ne ↦ l.last g (omega arith) c
       ];
-      some = λ p. let k = l.some p in (omega (arith, k.0), k.1, k.2);
     }
 
     pub state_joins : f < i → State alike code n (i + 1) after
@@ -79,11 +84,11 @@ module _ {alike : ℕ → ℕ → Bool} {code : ℕ → ℕ} {n : ℕ} (s : Same
       long = omega (arith, t.long, (entered_leaves cells i f within le n hi).long);
       firsts = firsts_more;
       counts = counts_more;
-      heads = λ b l. subst (λ (x : ℕ). Link alike code n b (i + 1) x) (sym (entered_head cells i f within le b))
-          (link_more b (head_at cells b) (t.heads b l) (λ own _. let z : ⊥ = omega arith in z));
+      heads = λ b l. subst (Link alike code n b (i + 1)) (sym (entered_head cells i f within le b))
+          (link_more b (head_at cells b) (t.heads b l) (λ c. let own = c.own in let z : ⊥ = omega arith in z));
       nexts = λ j l own. elim (cases_eq j i) [
         | inl e ↦ absurd (let q : first n alike i ≡ i = subst (λ (x : ℕ). first n alike x ≡ x) e own in let z : ⊥ = omega arith in z)
-        | inr ne ↦ subst (λ (x : ℕ). Link alike code n (code j % n) j x) (sym (entered_next cells i f within le j)) (t.nexts j (omega arith) own)
+        | inr ne ↦ subst (Link alike code n (code j % n) j) (sym (entered_next cells i f within le j)) (t.nexts j (omega arith) own)
       ];
     }
 
@@ -97,11 +102,8 @@ module _ {alike : ℕ → ℕ → Bool} {code : ℕ → ℕ} {n : ℕ} (s : Same
       b_after : b < length after
       b_after = omega (arith, t.long, (entered_leaves cells i f within le n hi).long)
 
-      top_link : Link alike code n b (i + 1) (i + 1)
-      top_link = record {
-        all = λ g l own at. l;
-        some = λ p. let e : i + 1 - 1 ≡ i = omega arith in (omega arith, subst (λ (x : ℕ). first n alike x ≡ x) (sym e) (sym h ∙ new), ap (λ (x : ℕ). code x % n) e ∙ sym bucket);
-      }
+      top_link : Latest alike code n b (i + 1) i
+      top_link = record { inside = omega arith; chained = record { own = sym h ∙ new; bucket = sym bucket }; last = λ g l c. omega arith }
 
       pub state_starts : State alike code n (i + 1) last
       state_starts = record {
@@ -109,26 +111,26 @@ module _ {alike : ℕ → ℕ → Bool} {code : ℕ → ℕ} {n : ℕ} (s : Same
         firsts = λ k l. chained_first after i b in_after b_after k ∙ firsts_more k l;
         counts = λ k l own. chained_count after i b in_after b_after k ∙ counts_more k l own;
         heads = λ d l. elim (cases_eq d b) [
-          | inl e ↦ subst (λ (y : ℕ). Link alike code n y (i + 1) (head_at last y)) (sym e) (subst (λ (x : ℕ). Link alike code n b (i + 1) x) (sym (chained_head after i b in_after b_after)) top_link)
-          | inr ne ↦ subst (λ (x : ℕ). Link alike code n d (i + 1) x) (sym (chained_heads after i b in_after b_after d ne ∙ entered_head cells i f within le d))
-              (link_more d (head_at cells d) (t.heads d l) (λ _ at. ne (sym at ∙ sym bucket)))
+          | inl e ↦ subst (λ (y : ℕ). Link alike code n y (i + 1) (head_at last y)) (sym e) (subst (Link alike code n b (i + 1)) (sym (chained_head after i b in_after b_after)) top_link)
+          | inr ne ↦ subst (Link alike code n d (i + 1)) (sym (chained_heads after i b in_after b_after d ne ∙ entered_head cells i f within le d))
+              (link_more d (head_at cells d) (t.heads d l) (λ c. ne (sym c.bucket ∙ sym bucket)))
         ];
         nexts = λ j l own. elim (cases_eq j i) [
           | inl e ↦ subst (λ (y : ℕ). Link alike code n (code y % n) y (next_at last y)) (sym e)
-              (subst (λ (x : ℕ). Link alike code n (code i % n) i x) (sym (chained_next after i b in_after b_after ∙ entered_head cells i f within le b))
+              (subst (Link alike code n (code i % n) i) (sym (chained_next after i b in_after b_after ∙ entered_head cells i f within le b))
               (subst (λ (y : ℕ). Link alike code n y i (head_at cells b)) bucket (t.heads b lb)))
-          | inr ne ↦ subst (λ (x : ℕ). Link alike code n (code j % n) j x) (sym (chained_nexts after i b in_after b_after j ne ∙ entered_next cells i f within le j))
+          | inr ne ↦ subst (Link alike code n (code j % n) j) (sym (chained_nexts after i b in_after b_after j ne ∙ entered_next cells i f within le j))
               (t.nexts j (omega arith) own)
         ];
       }
 
-  pub state_none : (cells : List CountCell) → n ≤ length cells → ((k : ℕ) → k < n → head_at cells k ≡ 0) → State alike code n 0 cells
-  state_none cells long zeros = record {
+  pub state_none : (cells : List CountCell) → n ≤ length cells → ((k : ℕ) → k < n → head_at cells k ≡ None) → State alike code n 0 cells
+  state_none cells long empty = record {
     long = long;
     firsts = λ k l. absurd (let z : ⊥ = omega arith in z);
     counts = λ k l. absurd (let z : ⊥ = omega arith in z);
-    heads = λ b l. subst (λ (x : ℕ). Link alike code n b 0 x) (sym (zeros b l)) (record { all = λ g lg. absurd (let z : ⊥ = omega arith in z); some = λ p. absurd (let z : ⊥ = omega arith in z) });
-    nexts = λ j l. absurd (let z : ⊥ = omega arith in z);
+    heads = λ b l. subst (Link alike code n b 0) (sym (empty b l)) (λ g lg. absurd (let z : ⊥ = omega arith in z));
+    nexts = λ j l own. absurd (let z : ⊥ = omega arith in z);
   }
 
   pub state_all : (cells : List CountCell) (m : ℕ) → m ≡ n → State alike code n m cells → Filled alike n cells

@@ -4,37 +4,37 @@ use Rattle.std.proofs.lemmas.Bool.{cases_eq}
 use Rattle.format.specs.Ranked.{count_below}
 use Rattle.counts.specs.declared.cells.CountCell.{CountCell}
 use Rattle.counts.specs.Cells.{first_at, count_at, order_at}
-use Rattle.counts.specs.Ranking.{listed, LeavesCounts}
+use Rattle.counts.specs.Ranking.{listed, KeepsCounts}
 use Rattle.counts.specs.Heaps.{Entries, Apart}
 use Rattle.counts.proofs.Classes.{count_le, count_yes, count_no}
 use Rattle.counts.proofs.Steps.{field_same, field_other}
 use Rattle.counts.proofs.Swaps.{counts_same, counts_more, counts_set, listed_same}
 
 -- the first items below c are at the first k places
-pub record Collected (old : List CountCell) (n c k : ℕ) (cells : List CountCell) : Type 0 where
-  pub count : k ≡ count_below c (listed old n)
+pub record Collected (old : List CountCell) (c k : ℕ) (cells : List CountCell) : Type 0 where
+  pub count : k ≡ count_below c (listed old)
   pub inside : (i : ℕ) → i < k → order_at cells i < c
-  pub heads : (i : ℕ) → i < k → listed old n (order_at cells i) ≡ true
+  pub heads : (i : ℕ) → i < k → listed old (order_at cells i) ≡ true
   pub apart : Apart k (order_at cells)
-  pub rest : LeavesCounts n old cells
+  pub rest : KeepsCounts old cells
 
-pub collected_none : (old : List CountCell) (n : ℕ) → Collected old n 0 0 old
-collected_none old n = record {
+pub collected_none : (old : List CountCell) → Collected old 0 0 old
+collected_none old = record {
   count = refl;
   inside = λ i l. absurd (let z : ⊥ = omega arith in z);
   heads = λ i l. absurd (let z : ⊥ = omega arith in z);
   apart = λ i j l. absurd (let z : ⊥ = omega arith in z);
-  rest = counts_same n old;
+  rest = counts_same old;
 }
 
-pub collected_few : (old : List CountCell) (n c k : ℕ) (cells : List CountCell) → Collected old n c k cells → k ≤ c
-collected_few old n c k cells w = rw w.count (count_le c (listed old n))
+pub collected_few : (old : List CountCell) (c k : ℕ) (cells : List CountCell) → Collected old c k cells → k ≤ c
+collected_few old c k cells w = rw w.count (count_le c (listed old))
 
-pub collected_skips : (old : List CountCell) (n c k : ℕ) (cells : List CountCell) → Collected old n c k cells → false ≡ listed cells n c → Collected old n (c + 1) k cells
-collected_skips old n c k cells w no_head =
-    let not_listed : listed old n c ≡ false = sym (listed_same n n old cells w.rest c) ∙ sym no_head in
+pub collected_skips : (old : List CountCell) (c k : ℕ) (cells : List CountCell) → Collected old c k cells → false ≡ listed cells c → Collected old (c + 1) k cells
+collected_skips old c k cells w no_head =
+    let not_listed : listed old c ≡ false = sym (listed_same old cells w.rest c) ∙ sym no_head in
     record {
-      count = w.count ∙ sym (count_no c (listed old n) not_listed);
+      count = w.count ∙ sym (count_no c (listed old) not_listed);
       inside = λ i l. omega (arith, w.inside i l);
       heads = w.heads;
       apart = w.apart;
@@ -42,9 +42,9 @@ collected_skips old n c k cells w no_head =
     }
 
 -- one more
-module _ (old : List CountCell) (n c k : ℕ) (cells : List CountCell) (x : CountCell) (w : Collected old n c k cells) (long : n ≤ length cells) (lc : c < n) (head : true ≡ listed cells n c) (order : x.order ≡ c) (first : x.first ≡ first_at cells k) (count : x.count ≡ count_at cells k) where
+module _ (old : List CountCell) (c k : ℕ) (cells : List CountCell) (x : CountCell) (w : Collected old c k cells) (lc : c < length cells) (head : true ≡ listed cells c) (order : x.order ≡ c) (first : x.first ≡ first_at cells k) (count : x.count ≡ count_at cells k) where
   within : k < length cells
-  within = omega (arith, collected_few old n c k cells w)
+  within = omega (arith, collected_few old c k cells w)
 
   here : order_at (set cells k x) k ≡ c
   here = field_same (λ y. y.order) cells k x within ∙ order
@@ -52,8 +52,8 @@ module _ (old : List CountCell) (n c k : ℕ) (cells : List CountCell) (x : Coun
   earlier : (i : ℕ) → i < k → order_at (set cells k x) i ≡ order_at cells i
   earlier i l = let ne : i ≢ k = omega arith in field_other (λ y. y.order) cells k x i ne
 
-  is_listed : listed old n c ≡ true
-  is_listed = sym (listed_same n n old cells w.rest c) ∙ sym head
+  is_listed : listed old c ≡ true
+  is_listed = sym (listed_same old cells w.rest c) ∙ sym head
 
   each : (P : ℕ → Type 0) → ((i : ℕ) → i < k → P (order_at cells i)) → P c → (i : ℕ) → i < k + 1 → P (order_at (set cells k x) i)
   each P h p i l = elim (cases_eq i k) [
@@ -80,18 +80,23 @@ module _ (old : List CountCell) (n c k : ℕ) (cells : List CountCell) (x : Coun
         ]
   ]
 
-  pub collected_more : Collected old n (c + 1) (k + 1) (set cells k x)
+  pub collected_more : Collected old (c + 1) (k + 1) (set cells k x)
   collected_more = record {
-    count = ap (λ (m : ℕ). m + 1) w.count ∙ sym (count_yes c (listed old n) is_listed);
+    count = ap (λ (m : ℕ). m + 1) w.count ∙ sym (count_yes c (listed old) is_listed);
     inside = each (λ y. y < c + 1) (λ i l. omega (arith, w.inside i l)) (omega arith);
-    heads = each (λ y. listed old n y ≡ true) w.heads is_listed;
+    heads = each (λ y. listed old y ≡ true) w.heads is_listed;
     apart = apart_more;
-    rest = counts_more n old cells (set cells k x) w.rest (counts_set n k cells x (omega (arith, collected_few old n c k cells w)) within first count);
+    rest = counts_more old cells (set cells k x) w.rest (counts_set k cells x within first count);
   }
 
-pub collected_entries : (old : List CountCell) (n c k : ℕ) (cells : List CountCell) → c ≡ n → Collected old n c k cells → Entries n cells k
-collected_entries old n c k cells end w i l =
-    (omega (arith, w.inside i l), listed_same n n old cells w.rest (order_at cells i) ∙ w.heads i l)
+pub collected_entries : (old : List CountCell) (c k : ℕ) (cells : List CountCell) → c ≡ length cells → Collected old c k cells → Entries cells k
+collected_entries old c k cells end w = record {
+  few = omega (arith, collected_few old c k cells w);
+  heads = λ i l. record {
+    inside = omega (arith, w.inside i l);
+    head = listed_same old cells w.rest (order_at cells i) ∙ w.heads i l;
+  };
+}
 
-pub collected_count : (old : List CountCell) (n c k : ℕ) (cells : List CountCell) → c ≡ n → Collected old n c k cells → k ≡ count_below n (listed old n)
-collected_count old n c k cells end w = w.count ∙ ap (λ (m : ℕ). count_below m (listed old n)) end
+pub collected_count : (old : List CountCell) (n c k : ℕ) (cells : List CountCell) → c ≡ n → Collected old c k cells → k ≡ count_below n (listed old)
+collected_count old n c k cells end w = w.count ∙ ap (λ (m : ℕ). count_below m (listed old)) end

@@ -1,10 +1,12 @@
 -- Classes of more than one item are counted, and the items of the best class marked. Assumes nothing.
-use Rattle.std.proofs.Common.{◌≡◌, ℕ, ◌+◌, ◌<◌, ◌≤◌, Bool, ◌&&◌, eqb, ltb, ◌≢◌, List, length, get_or, set, Some, Option, sym, refl, ap, ◌∙◌, subst, inl, inr, arith, length-set, get_or-set_other, get_or-set_same, below_more}
+use Rattle.std.proofs.Common.{◌≡◌, ℕ, ◌+◌, ◌<◌, ◌≤◌, Bool, ◌&&◌, cond, add-one, add-zero, zero-add, eqb, ltb, ◌≢◌, List, [], ◌∷◌, suc, count_by, length, get_or, set, Some, Option, sym, refl, ap, ◌∙◌, subst, inl, inr, arith, length-set, get_or-set_other, get_or-set_same, below_more}
+use Rattle.std.specs.List.{enumerate_from}
+use Rattle.std.proofs.lemmas.List.Sums.{sum_by-cons}
 use Rattle.std.proofs.lemmas.Bool.{cases_eq, ne_eqb, and_left}
 use Rattle.format.specs.Ranked.{count_below, first, count}
 use Rattle.counts.specs.declared.cells.CountCell.{CountCell}
 use Rattle.counts.specs.declared.cells.Class.{Class}
-use Rattle.counts.specs.Cells.{blank, first_at, count_at, marked_at, with_marked}
+use Rattle.counts.specs.Cells.{blank, repeats_as, first_at, count_at, marked_at}
 use Rattle.counts.specs.Tables.{Filled}
 use Rattle.counts.specs.Ranking.{class_ranked}
 use Rattle.counts.specs.Marking.{repeats, repeats_in, led_by, of_best, LeavesUnmarked}
@@ -27,7 +29,33 @@ module _ {same : ℕ → ℕ → Bool} {n : ℕ} {cells : List CountCell} (t : F
   best_led score best i l e =
       ap (λ (o : Option Class). led_by o (first_at cells i)) e ∙ ap (λ (f : ℕ). led_by (Some (class_ranked n same score 0)) f) (t.firsts i l)
 
+-- the cells that say so, one by one
+abbrev says : ℕ × CountCell → Bool
+says p = repeats_as p.1 p.0
+
+repeated_from : (cells : List CountCell) (k : ℕ) (q : ℕ → Bool) → ((i : ℕ) → i < length cells → q (k + i) ≡ repeats_as (get_or cells i blank) (k + i)) →
+    count_by says (enumerate_from k cells) + count_below k q ≡ count_below (k + length cells) q
+repeated_from [] k q e = rw add-zero (zero-add (count_below k q))
+repeated_from (c ∷ cells) k q e =
+    let own : q k ≡ repeats_as c k = rw add-zero at (e 0 (omega arith)) in
+    let more : count_by says (enumerate_from (k + 1) cells) + count_below (k + 1) q ≡ count_below (k + 1 + length cells) q =
+    repeated_from cells (k + 1) q (λ i l. let step : k + suc i ≡ k + 1 + i = omega arith in subst (λ (m : ℕ). q m ≡ repeats_as (get_or cells i blank) m) step (e (suc i) (omega arith))) in
+    let all : k + 1 + length cells ≡ k + suc (length cells) = omega arith in
+    let head = sum_by-cons (λ x. cond (says x) 1 0) (k, c) (enumerate_from (k + 1) cells) in
+    let here : count_below (k + 1) q ≡ cond (repeats_as c k) 1 0 + count_below k q = rw (add-one, own) refl in
+    let last : count_below (k + 1 + length cells) q ≡ count_below (k + suc (length cells)) q = ap (λ (m : ℕ). count_below m q) all in
+    omega (arith, head, here, more, last)
+
+pub repeated_first : (n : ℕ) (cells : List CountCell) → length cells ≡ n → count_by says (enumerate_from 0 cells) ≡ count_below n (repeats_in cells)
+repeated_first n cells e =
+    let all = repeated_from cells 0 (repeats_in cells) (λ i l. ap (λ (m : ℕ). repeats_as (get_or cells m blank) (0 + i)) (zero-add i)) in
+    let last : count_below (0 + length cells) (repeats_in cells) ≡ count_below n (repeats_in cells) = ap (λ (m : ℕ). count_below m (repeats_in cells)) (zero-add (length cells) ∙ e) in
+    omega (arith, all, last)
+
 -- ---- the marks, cell by cell
+abbrev with_marked : CountCell → Bool → CountCell
+with_marked c b = record c { marked = b }
+
 pub unmarked_same : (n : ℕ) (cells : List CountCell) → LeavesUnmarked n cells cells
 unmarked_same n cells = record { long = refl; beyond = λ k l. refl; rest = λ k. refl }
 

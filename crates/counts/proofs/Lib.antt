@@ -12,5 +12,5 @@ pub mod Collecting
 pub mod Orders
 pub mod Ranks
 pub mod Marks
-pub mod Parts
 pub mod Led
+pub mod Fronts

@@ -1,12 +1,16 @@
 -- What the writes of a count table leave. Assumes nothing.
-use Rattle.std.proofs.Common.{◌≡◌, ℕ, ◌+◌, ◌<◌, ◌≤◌, ◌≢◌, List, length, get_or, set, sym, refl, ap, ◌∙◌, subst, inl, inr, arith, length-set, get_or-set_other, get_or-set_same}
+use Rattle.std.proofs.Common.{◌≡◌, ℕ, ◌+◌, ◌<◌, ◌≤◌, ◌≢◌, List, length, get_or, set, Some, sym, refl, add-one, ap, ◌∙◌, subst, inl, inr, arith, length-set, get_or-set_other, get_or-set_same}
 use Rattle.std.proofs.lemmas.Bool.{cases_eq, cases_lt}
 use Rattle.counts.specs.declared.cells.CountCell.{CountCell}
-use Rattle.counts.specs.Cells.{blank, first_at, count_at, head_at, next_at, rank_at, order_at, joining, with_count, with_head, with_next, entered, chained}
+use Rattle.counts.specs.Cells.{blank, first_at, count_at, head_at, next_at, rank_at, order_at, entered, chained}
+use Rattle.counts.specs.Links.{linked, to_item}
 use Rattle.counts.specs.Tables.{LeavesRanks}
 
--- one field of every cell, after a write of one cell
-module _ (field : CountCell → ℕ) (cells : List CountCell) (i : ℕ) (c : CountCell) where
+pub linked_to : (i : ℕ) → linked (to_item i) ≡ Some i
+linked_to i = rw add-one refl
+
+-- what one field of every cell says, after a write of one cell
+module _ {V : Type 0} (field : CountCell → V) (cells : List CountCell) (i : ℕ) (c : CountCell) where
   pub field_same : i < length cells → field (get_or (set cells i c) i blank) ≡ field c
   field_same l = ap field (get_or-set_same cells i c blank l)
 
@@ -39,13 +43,13 @@ leaves_set n i cells c li l r o = record {
 -- ---- item i joins the class of item f
 module _ (cells : List CountCell) (i f : ℕ) (within : i < length cells) (le : f ≤ i) where
   abbrev start : CountCell
-  start = joining (get_or cells i blank) f
+  start = record (get_or cells i blank) { first = f; count = 0 }
 
   abbrev noted : List CountCell
   noted = set cells i start
 
   abbrev bumped : CountCell
-  bumped = with_count (get_or noted f blank) (count_at noted f + 1)
+  bumped = record (get_or noted f blank) { count = count_at noted f + 1 }
 
   noted_long : f < length noted
   noted_long = simp length-set (omega arith)
@@ -67,11 +71,11 @@ module _ (cells : List CountCell) (i f : ℕ) (within : i < length cells) (le : 
 
   pub entered_head : (k : ℕ) → head_at (entered cells i f) k ≡ head_at cells k
   unfolding entered
-  entered_head k = field_kept (λ x. x.head) noted f bumped noted_long refl k ∙ field_kept (λ x. x.head) cells i start within refl k
+  entered_head k = field_kept (λ x. linked x.head) noted f bumped noted_long refl k ∙ field_kept (λ x. linked x.head) cells i start within refl k
 
   pub entered_next : (k : ℕ) → next_at (entered cells i f) k ≡ next_at cells k
   unfolding entered
-  entered_next k = field_kept (λ x. x.next) noted f bumped noted_long refl k ∙ field_kept (λ x. x.next) cells i start within refl k
+  entered_next k = field_kept (λ x. linked x.next) noted f bumped noted_long refl k ∙ field_kept (λ x. linked x.next) cells i start within refl k
 
   pub entered_joined : f < i → count_at (entered cells i f) f ≡ count_at cells f + 1
   unfolding entered
@@ -95,42 +99,42 @@ module _ (cells : List CountCell) (i f : ℕ) (within : i < length cells) (le : 
 
 -- ---- item i comes first in the chain of bucket b
 module _ (cells : List CountCell) (i b : ℕ) (within : i < length cells) (bucket : b < length cells) where
-  abbrev linked : CountCell
-  linked = with_next (get_or cells i blank) (head_at cells b)
+  abbrev tied : CountCell
+  tied = record (get_or cells i blank) { next = (get_or cells b blank).head }
 
   abbrev hung : List CountCell
-  hung = set cells i linked
+  hung = set cells i tied
 
   abbrev top : CountCell
-  top = with_head (get_or hung b blank) (i + 1)
+  top = record (get_or hung b blank) { head = to_item i }
 
   hung_long : b < length hung
   hung_long = simp length-set bucket
 
   pub chained_first : (k : ℕ) → first_at (chained cells i b) k ≡ first_at cells k
   unfolding chained
-  chained_first k = field_kept (λ x. x.first) hung b top hung_long refl k ∙ field_kept (λ x. x.first) cells i linked within refl k
+  chained_first k = field_kept (λ x. x.first) hung b top hung_long refl k ∙ field_kept (λ x. x.first) cells i tied within refl k
 
   pub chained_count : (k : ℕ) → count_at (chained cells i b) k ≡ count_at cells k
   unfolding chained
-  chained_count k = field_kept (λ x. x.count) hung b top hung_long refl k ∙ field_kept (λ x. x.count) cells i linked within refl k
+  chained_count k = field_kept (λ x. x.count) hung b top hung_long refl k ∙ field_kept (λ x. x.count) cells i tied within refl k
 
   pub chained_next : next_at (chained cells i b) i ≡ head_at cells b
   unfolding chained
-  chained_next = field_kept (λ x. x.next) hung b top hung_long refl i ∙ field_same (λ x. x.next) cells i linked within
+  chained_next = field_kept (λ x. linked x.next) hung b top hung_long refl i ∙ field_same (λ x. linked x.next) cells i tied within
 
   pub chained_nexts : (k : ℕ) → k ≢ i → next_at (chained cells i b) k ≡ next_at cells k
   unfolding chained
-  chained_nexts k ne = field_kept (λ x. x.next) hung b top hung_long refl k ∙ field_other (λ x. x.next) cells i linked k ne
+  chained_nexts k ne = field_kept (λ x. linked x.next) hung b top hung_long refl k ∙ field_other (λ x. linked x.next) cells i tied k ne
 
-  pub chained_head : head_at (chained cells i b) b ≡ i + 1
+  pub chained_head : head_at (chained cells i b) b ≡ Some i
   unfolding chained
-  chained_head = field_same (λ x. x.head) hung b top hung_long
+  chained_head = field_same (λ x. linked x.head) hung b top hung_long ∙ linked_to i
 
   pub chained_heads : (k : ℕ) → k ≢ b → head_at (chained cells i b) k ≡ head_at cells k
   unfolding chained
-  chained_heads k ne = field_other (λ x. x.head) hung b top k ne ∙ field_kept (λ x. x.head) cells i linked within refl k
+  chained_heads k ne = field_other (λ x. linked x.head) hung b top k ne ∙ field_kept (λ x. linked x.head) cells i tied within refl k
 
   pub chained_leaves : (n : ℕ) → i < n → b < n → LeavesRanks n cells (chained cells i b)
   unfolding chained
-  chained_leaves n l m = leaves_more n cells hung _ (leaves_set n i cells linked l within refl refl) (leaves_set n b hung top m hung_long refl refl)
+  chained_leaves n l m = leaves_more n cells hung _ (leaves_set n i cells tied l within refl refl) (leaves_set n b hung top m hung_long refl refl)

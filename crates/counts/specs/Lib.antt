@@ -1,4 +1,6 @@
+pub mod Hashes
 pub mod Sameness
+pub mod Links
 pub mod Cells
 pub mod Tables
 pub mod Chains

@@ -1,10 +1,11 @@
 -- Peaks as rows of a store of axis values: each takes a values, and the next begins 3 a further on. Assumes nothing.
-use Rattle.std.specs.Prelude.{◌≡◌, ℕ, zero, suc, ◌+◌, ◌*◌, ◌%◌, ◌<◌, true, List, [], ◌∷◌, get_or, take, drop, ℤ, Decides, fold, slice_index_or}
+use Rattle.std.specs.Prelude.{◌≡◌, ℕ, zero, suc, ◌*◌, ◌<◌, true, List, [], ◌∷◌, get_or, take, drop, ℤ, Decides, fold, slice_index_or}
 use Rattle.std.proofs.Common.{ap, subst, of_z}
 use Rattle.std.specs.Int.{w16}
 use Rattle.format.specs.Bytes.{same_int, same_list}
 use Rattle.format.specs.Glyphs.{same_peak}
 use Rattle.format.proofs.Alike.{same_values, same_lists, same_itself}
+use Rattle.counts.specs.Hashes.{mix}
 use Rattle.counts.specs.Sameness.{Sameness, sameness_by_key}
 
 -- the peaks of n variations
@@ -12,12 +13,9 @@ abbrev pub rows : ℕ → List ℤ → ℕ → List (List ℤ)
 rows a xs zero = []
 rows a xs (suc n) = take a xs ∷ rows a (drop (3 * a) xs) n
 
--- a hash with one value more, and the hash of a row
-abbrev pub mix : ℕ → ℤ → ℕ
-mix h z = (h + of_z w16 z) * 1103515245 % 4294967291
-
+-- the hash of a row
 abbrev pub hash_of : List ℤ → ℕ
-hash_of zs = fold mix 0 zs
+hash_of zs = fold (λ h z. mix h (of_z w16 z)) 0 zs
 
 -- peaks are the same exactly if their values are equal
 pub peaks_decide : (p q : List ℤ) → Decides (same_list same_int p q) (p ≡ q)

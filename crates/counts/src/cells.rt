@@ -1,18 +1,20 @@
 // The cells of a count table, and what it says of a class.
 ghost use Rattle.std.specs.Prelude.{◌≡◌};
-ghost use Rattle.counts.specs.Cells.{blank};
+ghost use Rattle.counts.specs.Cells.{blank, lists, repeats_as};
+
+use crate::link::Link;
 
 // One cell for each item.
-#[derive(Clone, Copy)]
+#[derive(Clone, Copy, PartialEq, Eq, Debug)]
 pub struct CountCell {
     // the first item that is the same
     pub(crate) first: usize,
     // in a first item's cell: how many items are the same
     pub(crate) count: usize,
-    // 1 more than the last first item in the bucket of this number, or 0
-    pub(crate) head: usize,
-    // 1 more than the first item before this one in its bucket, or 0
-    pub(crate) next: usize,
+    // the last first item in the bucket of this number
+    pub(crate) head: Link,
+    // the first item before this one in its bucket
+    pub(crate) next: Link,
     // the rank of the item's class
     pub(crate) rank: usize,
     // the first item of the class whose rank is this cell's number
@@ -36,8 +38,8 @@ impl CountCell {
         CountCell {
             first: 0,
             count: 0,
-            head: 0,
-            next: 0,
+            head: Link::NONE,
+            next: Link::NONE,
             rank: 0,
             order: 0,
             marked: false,
@@ -63,5 +65,19 @@ impl CountCell {
         ensures { result ≡ self.now.marked }
     {
         self.marked
+    }
+
+    // Whether this cell's item, item i, is the first of a class, which has some of n items.
+    pub(crate) fn is_listed(&self, n: usize, i: usize) -> bool
+        ensures { result ≡ lists self.now n i }
+    {
+        self.first == i && self.count > 0 && self.count <= n
+    }
+
+    // Whether this cell's item, item i, is the first of a class of more than one.
+    pub(crate) fn is_repeated(&self, i: usize) -> bool
+        ensures { result ≡ repeats_as self.now i }
+    {
+        self.first == i && self.count > 1
     }
 }

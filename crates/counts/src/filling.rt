@@ -1,111 +1,101 @@
 // A count table is filled: a chain of first items for each bucket of hashes, in the cells.
-ghost use Rattle.std.specs.Prelude.{◌≡◌, ℕ, ◌+◌, ◌%◌, ◌<◌, ◌≤◌, true, false, length, nat_le};
+ghost use Rattle.std.specs.Prelude.{◌≡◌, ℕ, ◌+◌, ◌%◌, ◌<◌, ◌≤◌, ◌↔◌, length, None, IsErr, OnOk, OnErr};
 ghost use Rattle.counts.specs.Tables.{Filled, LeavesRanks, class_of};
 ghost use Rattle.counts.specs.Cells.{count_at, head_at, entered, chained};
 ghost use Rattle.counts.specs.Chains.{State};
 
 use crate::cells::CountCell;
 use crate::items::Items;
+use crate::link::Link;
 use crate::table::CountTable;
+use crate::too_few::TooFewCells;
+
+// Notes that item i belongs to the class of an item that is not later.
+fn enter(cells: &mut [CountCell], i: usize, first: usize)
+    requires within { i < length cells.old }
+    requires order { first ≤ i }
+    requires fits { first < i → count_at cells.old first ≤ i }
+    ensures { cells.new ≡ entered cells.old i first }
+{
+    cells[i] = CountCell {
+        first,
+        count: 0,
+        ..cells[i]
+    };
+    cells[first].count += 1;
+}
+
+// Puts first item i at the front of the chain of bucket b.
+fn chain(cells: &mut [CountCell], i: usize, b: usize)
+    requires within { i < length cells.old }
+    requires bucket { b < length cells.old }
+    ensures { cells.new ≡ chained cells.old i b }
+{
+    cells[i].next = cells[b].head;
+    cells[b].head = Link::to(i);
+}
+
+// The first item that is the same as item i, of bucket b.
+fn find<I: Items>(cells: &[CountCell], items: &I, i: usize, b: usize) -> usize
+    requires inside { i < I.size items.now }
+    requires bucket { b ≡ I.code items.now i % I.size items.now }
+    requires along { State (I.alike items.now) (I.code items.now) (I.size items.now) i cells.now }
+    ensures { result ≡ (class_of (I.size items.now) (I.alike items.now) i).first }
+{
+    let mut at = cells[b].head;
+    while let Some(j) = at.item() {
+        if items.same(j, i) {
+            return j;
+        }
+        at = cells[j].next;
+    }
+    i
+}
+
+// Adds item i, when those before it are counted.
+fn add<I: Items>(cells: &mut [CountCell], items: &I, i: usize)
+    requires inside { i < I.size items.now }
+    requires along { State (I.alike items.now) (I.code items.now) (I.size items.now) i cells.old }
+    ensures along { State (I.alike items.now) (I.code items.now) (I.size items.now) (i + 1) cells.new }
+    ensures rest { LeavesRanks (I.size items.now) cells.old cells.new }
+{
+    let n = items.count();
+    let b = items.hash(i) as usize % n;
+    let first = find(cells, items, i, b);
+    enter(cells, i, first);
+    if first == i {
+        chain(cells, i, b);
+    }
+}
+
+// Empties the buckets of the first n cells.
+fn reset(cells: &mut [CountCell], n: usize)
+    requires { n ≤ length cells.old }
+    ensures empty { (k : ℕ) → k < n → head_at cells.new k ≡ None }
+    ensures rest { LeavesRanks n cells.old cells.new }
+{
+    for cell in &mut cells[..n] {
+        cell.head = Link::NONE;
+    }
+}
 
 impl<'a> CountTable<'a> {
-    // Notes that item i belongs to the class of an item that is not later.
-    fn enter(&mut self, i: usize, first: usize)
-        requires within { i < length self.old.cells.now }
-        requires order { first ≤ i }
-        requires fits { first < i → count_at self.old.cells.now first ≤ i }
-        ensures value { self.new.cells.now ≡ entered self.old.cells.now i first }
-        ensures kept { self.new.cells.ghost_name ≡ self.old.cells.ghost_name }
-    {
-        let cell = self.cells[i];
-        self.cells[i] = CountCell {
-            first,
-            count: 0,
-            head: cell.head,
-            next: cell.next,
-            rank: cell.rank,
-            order: cell.order,
-            marked: cell.marked,
-        };
-        let count = self.cells[first].count;
-        self.cells[first].count = count + 1;
-    }
-
-    // Puts first item i at the front of the chain of bucket b.
-    fn chain(&mut self, i: usize, b: usize)
-        requires within { i < length self.old.cells.now }
-        requires bucket { b < length self.old.cells.now }
-        ensures value { self.new.cells.now ≡ chained self.old.cells.now i b }
-        ensures kept { self.new.cells.ghost_name ≡ self.old.cells.ghost_name }
-    {
-        let head = self.cells[b].head;
-        self.cells[i].next = head;
-        self.cells[b].head = i + 1;
-    }
-
-    // The first item that is the same as item i, of bucket b.
-    fn find<I: Items>(&self, items: &I, i: usize, b: usize) -> usize
-        requires inside { i < I.size items.now }
-        requires bucket { b ≡ I.code items.now i % I.size items.now }
-        requires along { State (I.alike items.now) (I.code items.now) (I.size items.now) i self.now.cells.now }
-        ensures { result ≡ (class_of (I.size items.now) (I.alike items.now) i).first }
-    {
-        let mut at = self.cells[b].head;
-        while at > 0 {
-            let j = at - 1;
-            if items.same(j, i) {
-                return j;
-            }
-            at = self.cells[j].next;
-        }
-        i
-    }
-
-    // Adds item i, when those before it are counted.
-    fn add<I: Items>(&mut self, items: &I, i: usize)
-        requires inside { i < I.size items.now }
-        requires along { State (I.alike items.now) (I.code items.now) (I.size items.now) i self.old.cells.now }
-        ensures along { State (I.alike items.now) (I.code items.now) (I.size items.now) (i + 1) self.new.cells.now }
-        ensures rest { LeavesRanks (I.size items.now) self.old.cells.now self.new.cells.now }
-        ensures kept { self.new.cells.ghost_name ≡ self.old.cells.ghost_name }
-    {
-        let n = items.count();
-        let b = items.hash(i) as usize % n;
-        let first = self.find(items, i, b);
-        self.enter(i, first);
-        if first == i {
-            self.chain(i, b);
-        }
-    }
-
-    // Empties the buckets of the first n cells.
-    fn reset(&mut self, n: usize)
-        requires { n ≤ length self.old.cells.now }
-        ensures zeros { (k : ℕ) → k < n → head_at self.new.cells.now k ≡ 0 }
-        ensures rest { LeavesRanks n self.old.cells.now self.new.cells.now }
-        ensures kept { self.new.cells.ghost_name ≡ self.old.cells.ghost_name }
-    {
-        for i in 0..n {
-            self.cells[i].head = 0;
-        }
-    }
-
     // Counts the items. Where there are fewer cells than items it refuses, and leaves the cells alone.
-    pub fn fill<I: Items>(&mut self, items: &I) -> bool
-        ensures refuses { result ≡ nat_le (I.size items.now) (length self.old.cells.now) }
-        ensures filled { result ≡ true → Filled (I.alike items.now) (I.size items.now) self.new.cells.now }
-        ensures alone { result ≡ false → self.new.cells.now ≡ self.old.cells.now }
+    pub fn fill<I: Items>(&mut self, items: &I) -> Result<(), TooFewCells>
+        ensures refuses { IsErr result ↔ (length self.old.cells.now < I.size items.now) }
+        ensures filled { OnOk result (Filled (I.alike items.now) (I.size items.now) self.new.cells.now) }
+        ensures alone { OnErr result (self.new.cells.now ≡ self.old.cells.now) }
         ensures rest { LeavesRanks (I.size items.now) self.old.cells.now self.new.cells.now }
         ensures kept { self.new.cells.ghost_name ≡ self.old.cells.ghost_name }
     {
         let n = items.count();
         if self.cells.len() < n {
-            return false;
+            return Err(TooFewCells);
         }
-        self.reset(n);
+        reset(self.cells, n);
         for i in 0..n {
-            self.add(items, i);
+            add(self.cells, items, i);
         }
-        true
+        Ok(())
     }
 }

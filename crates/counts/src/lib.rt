@@ -3,9 +3,13 @@
 
 pub mod cells;
 pub mod filling;
-pub mod heap;
+pub mod hash;
+mod heap;
 pub mod items;
+mod link;
 pub mod marking;
 pub mod peaks;
 pub mod ranking;
+mod reading;
 pub mod table;
+pub mod too_few;

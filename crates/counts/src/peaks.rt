@@ -1,15 +1,10 @@
 // The peaks of a set's variations, as items of a count table.
 ghost use Rattle.std.specs.Prelude.{◌≡◌, ◌+◌, ◌*◌, ◌<◌, ◌≤◌, leb, [], length, take, drop, if◌then◌else◌, nat_le, slice_index_or};
 ghost use Rattle.format.specs.Glyphs.{same_peak};
-ghost use Rattle.counts.specs.Rows.{rows, mix, hash_of, peaks_sameness, peaks_agree};
+ghost use Rattle.counts.specs.Rows.{rows, hash_of, peaks_sameness, peaks_agree};
 
+use crate::hash::Hash;
 use crate::items::{Items, Ranked};
-
-// A hash is below this prime.
-const HASH_PRIME: u64 = 4294967291;
-
-// What a hash is multiplied by at each value.
-const HASH_FACTOR: u64 = 1103515245;
 
 // The peaks of `count` variations: each has a row of `axes` values, and the next row begins 3 * axes values further on.
 #[derive(Clone, Copy)]
@@ -18,15 +13,6 @@ pub struct Peaks<'s> {
     axes: usize,
     count: usize,
     ghost within: { 3 * axes * count ≤ length values.now },
-}
-
-// A hash, with one value more mixed in.
-fn mixed(hash: u64, value: i16) -> u64
-    requires { hash < 4294967291 }
-    ensures value { result ≡ mix hash value }
-    ensures fits { result < 4294967291 }
-{
-    (hash + value.cast_unsigned() as u64) * HASH_FACTOR % HASH_PRIME
 }
 
 // Whether `len` values are enough for `count` variations.
@@ -104,11 +90,11 @@ impl<'s> Items for Peaks<'s> {
     }
 
     fn hash(&self, i: usize) -> u32 {
-        let mut hash = 0;
+        let mut hash = Hash::new();
         for value in self.peak(i) {
-            hash = mixed(hash, *value);
+            hash = hash.mix(value.cast_unsigned());
         }
-        hash as u32
+        hash.value()
     }
 }
 

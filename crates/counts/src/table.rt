@@ -23,9 +23,7 @@ impl<'a> CountTable<'a> {
         ensures value { self.new.cells.now ≡ replicate (length self.old.cells.now) blank }
         ensures kept { self.new.cells.ghost_name ≡ self.old.cells.ghost_name }
     {
-        for i in 0..self.cells.len() {
-            self.cells[i] = CountCell::zeros();
-        }
+        self.cells.fill(CountCell::zeros());
     }
 
     // The class of item i, as the table was filled; none past the cells.
@@ -33,14 +31,8 @@ impl<'a> CountTable<'a> {
         ensures value { (n : ℕ) (same : ℕ → ℕ → Bool) → Filled same n self.now.cells.now → i < n → result ≡ Some (class_of n same i) }
         ensures outside { length self.now.cells.now ≤ i → result ≡ None }
     {
-        if i >= self.cells.len() {
-            return None;
-        }
-        let first = self.cells[i].first;
-        if first >= self.cells.len() {
-            return None;
-        }
-        let count = self.cells[first].count;
+        let first = self.cells.get(i)?.first;
+        let count = self.cells.get(first)?.count;
         Some(Class { first, count })
     }
 }

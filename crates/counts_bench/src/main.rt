@@ -52,7 +52,7 @@ fn measure(rt: &HostRuntime, n: usize, kinds: usize) -> io::Result<()> {
     let peaks = Peaks::over(values.as_slice(), AXES, n);
     let mut table = CountTable::over(cells.as_mut_slice());
     let start = Instant::now(rt)?;
-    let filled = table.fill(&peaks);
+    let filled = table.fill(&peaks).is_ok();
     let fill = start.elapsed(rt)?.as_micros();
     let start = Instant::now(rt)?;
     let classes = table.rank(&peaks);

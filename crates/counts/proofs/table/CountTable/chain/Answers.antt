@@ -1,7 +1,0 @@
-use Rattle.std.proofs.Common.{refl}
-use Rattle.counts.specs.Cells.{chained}
-use Rattle.counts.proofs.table.CountTable.chain.Goals as goal
-
-pub returns : goal.returns
-unfolding chained
-returns c = record { value = refl; kept = refl }
