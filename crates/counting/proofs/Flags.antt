@@ -11,7 +11,7 @@ use Rattle.variations.specs.declared.delta.GlyphDelta.{GlyphDelta}
 use Rattle.variations.specs.Deltas.{deltas_of}
 use Rattle.variations.proofs.GapCuts.{points_keep, points_skip, points_end}
 use Rattle.counts.proofs.Classes.{refuted}
-use Rattle.counting.specs.PointSets.{mix, no_delta, required_at, points_itself}
+use Rattle.counting.specs.PointSets.{mix_point, no_delta, required_at, points_itself}
 
 abbrev points : ℕ → List GlyphDelta → List ℕ
 points n ds = required_from n (deltas_of ds)
@@ -71,13 +71,13 @@ same_from_all xs ys n true lx ly h = same_yes xs ys (λ k. elim (cases_lt k n) [
 same_from_all xs ys n false lx ly h = same_not xs ys (get_or (range_with_len 0 n) h.0 0) (h.2 0)
 
 -- ---- the hash, point by point
-pub hash_step : (ds : List GlyphDelta) (i h r : ℕ) → i < length ds → r ≡ cond (required_at ds i) (mix h i) h →
-    fold mix r (points (i + 1) (drop (i + 1) ds)) ≡ fold mix h (points i (drop i ds))
+pub hash_step : (ds : List GlyphDelta) (i h r : ℕ) → i < length ds → r ≡ cond (required_at ds i) (mix_point h i) h →
+    fold mix_point r (points (i + 1) (drop (i + 1) ds)) ≡ fold mix_point h (points i (drop i ds))
 hash_step ds i h r l e = by (required_at ds i) refl
   where
-    by : (b : Bool) → required_at ds i ≡ b → fold mix r (points (i + 1) (drop (i + 1) ds)) ≡ fold mix h (points i (drop i ds))
-    by true q = ap (λ (x : ℕ). fold mix x (points (i + 1) (drop (i + 1) ds))) (e ∙ cond-true _ _ _ q) ∙ ap (λ (ps : List ℕ). fold mix h ps) (sym (points_keep ds i no_delta l q))
-    by false q = ap (λ (x : ℕ). fold mix x (points (i + 1) (drop (i + 1) ds))) (e ∙ cond-false _ _ _ q) ∙ ap (λ (ps : List ℕ). fold mix h ps) (sym (points_skip ds i no_delta l q))
+    by : (b : Bool) → required_at ds i ≡ b → fold mix_point r (points (i + 1) (drop (i + 1) ds)) ≡ fold mix_point h (points i (drop i ds))
+    by true q = ap (λ (x : ℕ). fold mix_point x (points (i + 1) (drop (i + 1) ds))) (e ∙ cond-true _ _ _ q) ∙ ap (λ (ps : List ℕ). fold mix_point h ps) (sym (points_keep ds i no_delta l q))
+    by false q = ap (λ (x : ℕ). fold mix_point x (points (i + 1) (drop (i + 1) ds))) (e ∙ cond-false _ _ _ q) ∙ ap (λ (ps : List ℕ). fold mix_point h ps) (sym (points_skip ds i no_delta l q))
 
-pub hash_end : (ds : List GlyphDelta) (i h : ℕ) → length ds ≤ i → fold mix h (points i (drop i ds)) ≡ h
-hash_end ds i h l = ap (λ (ps : List ℕ). fold mix h ps) (points_end ds i l)
+pub hash_end : (ds : List GlyphDelta) (i h : ℕ) → length ds ≤ i → fold mix_point h (points i (drop i ds)) ≡ h
+hash_end ds i h l = ap (λ (ps : List ℕ). fold mix_point h ps) (points_end ds i l)

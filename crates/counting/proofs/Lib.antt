@@ -1,4 +1,5 @@
 mod Flags
+mod Filling
 pub mod Packed
 mod SharedSets
 mod Views

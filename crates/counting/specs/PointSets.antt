@@ -7,6 +7,7 @@ use Rattle.format.specs.Bytes.{same_list}
 use Rattle.format.specs.Glyphs.{point_sets, same_points, same_set}
 use Rattle.format.specs.Packed.{Points, every, only, packed_points}
 use Rattle.format.proofs.Alike.{same_sets}
+use Rattle.counts.specs.Hashes.{mix}
 use Rattle.counts.specs.Sameness.{Sameness, sameness_by_key}
 use Rattle.sets.specs.declared.view.Span.{Span}
 use Rattle.sets.specs.Views.{all_variations}
@@ -21,12 +22,12 @@ abbrev pub sets_of : List Glyph → Span → List Points
 sets_of gs p = point_sets (spanned gs p)
 
 -- a hash with one point more, and the hash of a point set
-abbrev pub mix : ℕ → ℕ → ℕ
-mix h p = (h + p + 1) * 1103515245 % 4294967291
+abbrev pub mix_point : ℕ → ℕ → ℕ
+mix_point h p = mix h (p + 1)
 
 abbrev pub hash_of : Points → ℕ
 hash_of every = 0
-hash_of (only ps) = fold mix 0 ps
+hash_of (only ps) = fold mix_point 0 ps
 
 -- the score of a class of k point sets, whose first is point set c
 abbrev pub worth_of : List Points → ℕ → ℕ → ℕ

@@ -30,7 +30,7 @@ fn count_peaks(set: &Set, cells: &mut [CountCell]) -> usize
     let n = set.variation_count();
     let peaks = Peaks::over(set.axis_values(), set.axis_count() as usize, n);
     let mut table = CountTable::over(cells);
-    table.fill(&peaks);
+    table.fill(&peaks).unwrap();
     let repeated = table.repeated(n);
     table.rank(&peaks);
     repeated.min(MOST_SHARED)
@@ -43,7 +43,7 @@ fn mark_part(points: &PointSets, cells: &mut [CountCell])
     ensures rest { KeepsRanks cells.old cells.new }
 {
     let mut table = CountTable::over(cells);
-    table.fill(points);
+    table.fill(points).unwrap();
     table.mark_best(points);
 }
 

@@ -4,16 +4,11 @@ ghost use Rattle.format.specs.Bytes.{same_list};
 ghost use Rattle.format.specs.Glyphs.{required_from, same_points};
 ghost use Rattle.variations.specs.Deltas.{deltas_of};
 ghost use Rattle.tuples.specs.Choice.{kept_points};
-ghost use Rattle.counting.specs.PointSets.{mix, hash_of, required_at};
+ghost use Rattle.counting.specs.PointSets.{mix_point, hash_of, required_at};
 
+use counts::hash::Hash;
 use sets::view::GlyphDeltas;
 use variations::delta::GlyphDelta;
-
-// A hash is below this prime.
-const HASH_PRIME: u64 = 4294967291;
-
-// What a hash is multiplied by at each point.
-const HASH_FACTOR: u64 = 1103515245;
 
 // Whether point i is required; none past the last is.
 fn is_required(deltas: &[GlyphDelta], i: usize) -> bool
@@ -41,15 +36,13 @@ pub(crate) fn same_stored(a: &GlyphDeltas<'_>, b: &GlyphDeltas<'_>) -> bool
     }
 }
 
-// A hash, with a point mixed in where it is required.
-fn mixed(hash: u64, point: usize, required: bool) -> u64
-    requires hash { hash < 4294967291 }
-    requires point { point < 65536 }
-    ensures value { result ≡ (if required then mix hash point else hash) }
-    ensures fits { result < 4294967291 }
+// The hash with point i mixed in, as 1 more, where it is required.
+fn mixed(hash: Hash, i: usize, required: bool) -> Hash
+    requires { i < 65535 }
+    ensures { result.state ≡ (if required then mix_point hash.state i else hash.state) }
 {
     if required {
-        (hash + point as u64 + 1) * HASH_FACTOR % HASH_PRIME
+        hash.mix(i as u16 + 1)
     } else {
         hash
     }
@@ -57,13 +50,13 @@ fn mixed(hash: u64, point: usize, required: bool) -> u64
 
 fn hash_required(deltas: &[GlyphDelta]) -> u32
     requires { length deltas.now ≤ 32767 }
-    ensures { result ≡ fold mix 0 (required_from 0 (deltas_of deltas.now)) }
+    ensures { result ≡ fold mix_point 0 (required_from 0 (deltas_of deltas.now)) }
 {
-    let mut hash = 0;
+    let mut hash = Hash::new();
     for (i, delta) in deltas.iter().enumerate() {
         hash = mixed(hash, i, delta.required);
     }
-    hash as u32
+    hash.value()
 }
 
 // The hash of the points that a variation stores: all, or the required ones.
