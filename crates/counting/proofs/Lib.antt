@@ -1,5 +1,4 @@
 mod Flags
-mod Filling
 pub mod Packed
 mod SharedSets
 mod Views

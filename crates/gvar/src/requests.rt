@@ -11,7 +11,7 @@ pub enum Request<'c> {
 }
 
 // What a call is granted.
-#[derive(Clone, Copy)]
+#[derive(Clone, Copy, PartialEq, Eq, Debug)]
 pub enum Granted {
     // A glyph was begun, or a variation added.
     Added,
@@ -19,4 +19,5 @@ pub enum Granted {
     Table(usize),
 }
 
+// The answer of a call.
 pub type Reply = Result<Granted, Refusal>;

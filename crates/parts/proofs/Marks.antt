@@ -1,17 +1,16 @@
 -- The points that a glyph shares, from the marks of its variations.
-use Rattle.std.proofs.Common.{◌≡◌, ℕ, ◌+◌, ◌<◌, Bool, true, false, cond, eqb, ltb, List, [], ◌∷◌, ◌++◌, length, get_or, sym, refl, ap, ◌∙◌, subst, arith, length-append, get_or-append-add}
+use Rattle.std.proofs.Common.{◌≡◌, ℕ, ◌+◌, ◌<◌, Bool, true, false, cond, eqb, ltb, List, [], ◌∷◌, ◌++◌, length, get_or, sym, refl, ap, ◌∙◌, subst, arith, get_or-append-add}
 use mathlib.Core.Option.{Option, none, some}
 use Rattle.std.proofs.lemmas.List.{get_or_append_left, get_or-map, length-map}
-use Rattle.std.proofs.lemmas.Bool.{both_ways, false≢true, ltb-true, eq-eqb, and_from, cond-true}
+use Rattle.std.proofs.lemmas.Bool.{both_ways, false≢true, ltb-true, cond-true}
 use Rattle.format.specs.Account.{Glyph, Variation}
-use Rattle.format.specs.Bytes.{same_list}
 use Rattle.format.specs.Glyphs.{stored_points, point_sets, same_points, same_set, set_count, set_score, shared_points, is_shared, shared_part}
-use Rattle.format.specs.Packed.{Points, every, only, packed_points}
+use Rattle.format.specs.Packed.{Points, every, packed_points}
 use Rattle.format.specs.Ranked.{ranked}
 use Rattle.format.specs.Table.{variations_of}
 use Rattle.format.proofs.Alike.{same_sets}
 use Rattle.format.proofs.Counts.{count_none}
-use Rattle.sets.specs.Views.{all_variations, no_variation, variations_before}
+use Rattle.sets.specs.Views.{no_variation, variations_before}
 use Rattle.counts.proofs.Classes.{refuted}
 use Rattle.counting.specs.Counted.{marks, all_marks}
 use Rattle.counting.specs.PointSets.{sets_itself}

@@ -1,11 +1,11 @@
 -- How many bytes points and coordinates take at most.
-use Rattle.std.proofs.Common.{◌≡◌, ℕ, zero, suc, ◌+◌, ◌*◌, ◌≤◌, Bool, true, false, leb, List, [], ◌∷◌, map, length, take, drop, ℤ, refl, ap, arith, length-append, take-append-drop}
+use Rattle.std.proofs.Common.{◌≡◌, ℕ, zero, suc, ◌+◌, ◌*◌, ◌≤◌, Bool, List, [], ◌∷◌, map, length, take, drop, ℤ, ap, arith, length-append, take-append-drop}
 use Rattle.std.proofs.lemmas.List.{length-map}
 use Rattle.std.proofs.lemmas.Bool.{cond_both}
 use Rattle.format.specs.Account.{Delta}
-use Rattle.format.specs.Bytes.{word, joined, passing}
-use Rattle.format.specs.Packed.{Kind, zeros, bytes, words, kind, extent, value_bytes, run_bytes, cut_at_most, packed_deltas, every, only, gaps_after, is_wide, class_extent, gap_bytes, gap_run_bytes, cut_gaps_at_most, count_bytes, packed_points}
-use Rattle.format.specs.Glyphs.{required_from, required_deltas, xs_of, ys_of, coordinates, stores_all, stored_points, stored_deltas}
+use Rattle.format.specs.Bytes.{joined, passing}
+use Rattle.format.specs.Packed.{Kind, zeros, bytes, words, kind, extent, value_bytes, run_bytes, cut_at_most, packed_deltas}
+use Rattle.format.specs.Glyphs.{required_deltas, xs_of, ys_of, coordinates, stores_all, stored_deltas}
 
 split_long : {X : Type 0} (n : ℕ) (xs : List X) → length (take n xs) + length (drop n xs) ≡ length xs
 split_long n xs = let e = ap length (take-append-drop n xs) in let a = length-append (take n xs) (drop n xs) in omega arith

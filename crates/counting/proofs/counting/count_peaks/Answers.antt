@@ -1,5 +1,4 @@
-use Rattle.std.proofs.Common.{◌≡◌, ℕ, ◌*◌, ◌≤◌, List, length, ℤ, Result, OnOk, sym, ap, ◌∙◌, subst, arith, Bor, MutBor, rules}
-use Rattle.std.proofs.lemmas.Bool.Decides.{nat_tests}
+use Rattle.std.proofs.Common.{◌≡◌, ℕ, ◌*◌, List, length, ℤ, Result, OnOk, sym, ap, ◌∙◌, subst, Bor, rules}
 use Rattle.format.specs.Glyphs.{peaks_seen, same_peak}
 use Rattle.format.specs.Ranked.{count}
 use Rattle.format.specs.Table.{variation_count}
@@ -10,7 +9,6 @@ use Rattle.counts.specs.Tables.{Filled}
 use Rattle.counts.specs.declared.too_few.TooFewCells.{TooFewCells}
 use Rattle.sets.specs.OfSet.{account_of, glyphs_of}
 use Rattle.counting.specs.Counted.{RanksHeld, OrdersHeld}
-use Rattle.counting.proofs.Filling.{enough_cells}
 use Rattle.counting.proofs.Ranks.{seen_long, enough, ranks_held, orders_held, shared_is}
 use Rattle.counting.proofs.counting.count_peaks.Goals as goal
 
@@ -23,10 +21,8 @@ returns c =
     let xs = c.axis_values.result.now in
     let p = c.over-peaks.result in
     let rs = rows p.axes p.values.now p.count in
-    let start = c.over-table.result.cells.now in
     let filling = c.fill.new.self.cells.now in
     let end = c.rank.new.self.cells.now in
-    let same : start ≡ c.args.cells.now = ap (λ (r : MutBor (List CountCell)). r.now) c.over-table.ensures in
     let number : n ≡ length ps = c.variation_count-n.ensures.all ∙ sym (seen_long gs) in
     let values : length xs ≡ 3 * c.axis_count.result * n =
     c.axis_values.ensures.long ∙ ap (λ (x : ℕ). 3 * x * variation_count gs) (sym c.axis_count.ensures.is) ∙ ap (λ (x : ℕ). 3 * c.axis_count.result * x) (sym c.variation_count-n.ensures.is) in
@@ -36,7 +32,6 @@ returns c =
     ∙ ap (λ (x : Bor (List ℤ)). rows axes x.now p.count) c.over-peaks.ensures.values
     ∙ ap (λ (x : ℕ). rows axes xs x) (k ∙ c.variation_count-n.ensures.is)
     ∙ c.axis_values.ensures.rows in
-    let long : p.count ≤ length start = subst (λ (x : List CountCell). p.count ≤ length x) (sym same) (let v = c.variation_count-n.ensures.all in omega (arith, v, k, c.requires)) in
     let filled : Filled (same_peak rs) p.count filling = subst (λ (r : Result (Unit {0}) TooFewCells). OnOk r (Filled (same_peak rs) p.count filling)) c.unwrap.ensures c.fill.ensures.filled in
     let standing : Standing (same_peak rs) (λ i. count p.count (same_peak rs) i) p.count end = c.rank.ensures.ranked filled in
     record {
@@ -44,13 +39,3 @@ returns c =
       ranks = subst (λ (x : List CountCell). RanksHeld ps x) (search rules) (ranks_held rs ps p.count e (k ∙ number) end standing);
       orders = subst (λ (x : List CountCell). OrdersHeld ps x) (search rules) (orders_held rs ps p.count e (k ∙ number) end standing);
     }
-
-pub unwrap-requires : goal.unwrap-requires
-unwrap-requires c =
-    let p = c.over-peaks.result in
-    let n = c.variation_count-n.result in
-    let start = c.over-table.result.cells.now in
-    let same : start ≡ c.args.cells.now = ap (λ (r : MutBor (List CountCell)). r.now) c.over-table.ensures in
-    let k : p.count ≤ n = grind (arith, nat_tests) in
-    let long : p.count ≤ length start = subst (λ (x : List CountCell). p.count ≤ length x) (sym same) (let v = c.variation_count-n.ensures.all in omega (arith, v, k, c.requires)) in
-    enough_cells c.fill.result p.count (length start) c.fill.ensures.refuses long

@@ -1,4 +1,4 @@
-use Rattle.std.proofs.Common.{◌≡◌, ◌<◌, drop, fold}
+use Rattle.std.proofs.Common.{◌≡◌, drop, fold}
 use Rattle.format.specs.Glyphs.{required_from}
 use Rattle.variations.specs.Deltas.{deltas_of}
 use Rattle.counting.specs.PointSets.{mix_point}

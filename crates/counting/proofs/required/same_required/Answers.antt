@@ -1,4 +1,4 @@
-use Rattle.std.proofs.Common.{◌≡◌, ◌-◌, ◌≤◌, length, refl, arith, rules, tests}
+use Rattle.std.proofs.Common.{◌≡◌, refl, arith, rules, tests}
 use Rattle.std.proofs.lemmas.Iterator.{cases_from_all, YieldsList-from_range}
 use Rattle.counting.specs.PointSets.{required_at}
 use Rattle.counting.proofs.Flags.{same_from_all}

@@ -1,17 +1,14 @@
-use Rattle.std.proofs.Common.{◌≡◌, ℕ, ◌≤◌, ◌<◌, true, false, length, replicate, Some, None, Ok, Err, Result, MatchOption, sym, refl, ap, ◌∙◌, arith, rules, tests}
+use Rattle.std.proofs.Common.{◌≡◌, ◌≤◌, true, false, length, replicate, Some, None, Err, sym, refl, ◌∙◌, arith, rules}
 use mathlib.Core.Option.{none}
 use Rattle.std.proofs.lemmas.Option.{MatchOption-at_some, MatchOption-at_none}
 use Rattle.std.proofs.lemmas.Result.{err_from_is_err_and}
-use Rattle.format.specs.Glyphs.{peaks_seen, shared_count}
 use Rattle.format.specs.Table.{numbers_full, variation_count}
 use Rattle.format.specs.Answers.{by_set, missing_numbers, few_count_cells}
-use Rattle.counts.specs.Cells.{blank}
-use Rattle.counting.specs.Counted.{Counted}
 use Rattle.sets.specs.declared.refusal.Refusal.TheVariants.{TooFewCountCells}
 use Rattle.sets.specs.OfSet.{stores, account_of, glyphs_of, sound_of}
 use Rattle.sets.proofs.Shortness.{short_set}
 use Rattle.parts.specs.OfParts.{parts_axes, parts_glyphs}
-use Rattle.gvar.proofs.Answering.{compiled_refused, compiled_written, peaks_counted, cells_at_gap, cells_too_few, cells_cleared, sink_left}
+use Rattle.gvar.proofs.Answering.{compiled_refused, compiled_written, peaks_counted, cells_cleared, sink_left}
 use Rattle.gvar.proofs.compile.compile.Goals as goal
 
 pub returns-then-not-numbers_full-clause-compiled : goal.returns-then-not-numbers_full-clause-compiled

@@ -1,9 +1,7 @@
-use Rattle.std.proofs.Common.{◌≡◌, ◌<◌, ℕ, length, sym, ◌∙◌, ap, Result, arith, below_more, rules, tests}
+use Rattle.std.proofs.Common.{◌<◌, length, arith, below_more, rules, tests}
 use Rattle.std.proofs.lemmas.Result.{err_from_is_err_and}
 use Rattle.format.specs.Answers.{SizesFit}
-use Rattle.stores.specs.declared.size.StoreFault.{StoreFault}
-use Rattle.stores.specs.Sizes.{StoreSized, store_declined}
-use Rattle.sets.specs.Refusals.{declined_of}
+use Rattle.stores.specs.Sizes.{StoreSized}
 use Rattle.parts.specs.OfParts.{parts_glyphs}
 use Rattle.parts.specs.OfStore.{store_peaks, store_variations}
 use Rattle.gvar.proofs.Answering.{ok_told, err_told, measured_fits, measured_refuses}
