@@ -11,7 +11,7 @@ use Rattle.sets.specs.Refusals.{declined_of}
 use Rattle.gvar.specs.declared.requests.Request.{Request}
 use Rattle.gvar.specs.declared.requests.Request.TheVariants.{Glyph, Variation, Compile}
 use Rattle.gvar.specs.declared.requests.Granted.{Granted}
-use Rattle.gvar.specs.declared.requests.Granted.TheVariants.{Added as AnAddition, Table}
+use Rattle.gvar.specs.declared.requests.Granted.TheVariants.{Accepted, Table}
 use Rattle.gvar.specs.Compiling.{meaning_of}
 
 -- a reply: what is granted, or why the call is refused
@@ -20,13 +20,13 @@ Reply = Result Granted Refusal
 
 -- what a reply says of a glyph or a variation: accepted, or why it is refused
 abbrev pub addition_answer : Reply → Option (Option Declined)
-addition_answer (Ok AnAddition) = some none
+addition_answer (Ok Accepted) = some none
 addition_answer (Ok (Table n)) = none
 addition_answer (Err e) = some (some (declined_of e))
 
 -- what a reply says of a compile
 abbrev pub table_answer : Reply → Option Answer
-table_answer (Ok AnAddition) = none
+table_answer (Ok Accepted) = none
 table_answer (Ok (Table n)) = some (granted n)
 table_answer (Err e) = some (refused (declined_of e))
 

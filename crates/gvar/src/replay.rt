@@ -22,8 +22,10 @@ fn make<S: Sink>(
     ensures cells { length cells.new ≡ length cells.old }
 {
     match *request {
-        Request::Glyph(n) => set.glyph(n).map(|()| Granted::Added),
-        Request::Variation(tents, deltas) => set.variation(tents, deltas).map(|()| Granted::Added),
+        Request::Glyph(n) => set.glyph(n).map(|()| Granted::Accepted),
+        Request::Variation(tents, deltas) => set
+            .variation(tents, deltas)
+            .map(|()| Granted::Accepted),
         Request::Compile => compile(&*set, cells, sink).map(|n| Granted::Table(n)),
     }
 }

@@ -14,7 +14,7 @@ pub enum Request<'c> {
 #[derive(Clone, Copy, PartialEq, Eq, Debug)]
 pub enum Granted {
     // A glyph was begun, or a variation added.
-    Added,
+    Accepted,
     // A table of so many bytes was handed to the sink.
     Table(usize),
 }
