@@ -1,14 +1,16 @@
--- Required points compared point by point, and their hash. Assumes nothing.
-use Rattle.std.proofs.Common.{◌≡◌, ℕ, zero, suc, ◌+◌, ◌<◌, ◌≤◌, Bool, true, false, cond, not, eqb, List, [], ◌∷◌, length, drop, fold, sym, refl, ap, ◌∙◌, arith}
-use Rattle.std.proofs.lemmas.Bool.{eq-eqb, ne_eqb, eqb-true, true≢false, cond-true, cond-false}
+-- Required points compared point by point. Assumes nothing.
+use Rattle.std.proofs.Common.{◌≡◌, ℕ, zero, suc, ◌+◌, ◌<◌, ◌≤◌, Bool, true, false, cond, eqb, List, [], ◌∷◌, length, get_or, MatchBool, sym, refl, ap, ◌∙◌, subst, inl, inr, arith}
+use Rattle.std.specs.List.{AllWithin, HoldsAt, range_with_len}
+use Rattle.std.proofs.lemmas.Bool.{cases_lt, eq-eqb, ne_eqb, eqb-true, cond-false}
+use Rattle.std.proofs.lemmas.List.{get_or_past}
+use Rattle.std.proofs.lemmas.List.FromFn.{length-range_with_len, get_or-range_with_len}
 use Rattle.format.specs.Bytes.{any, same_list}
 use Rattle.format.specs.Glyphs.{required_from}
 use Rattle.format.proofs.Alike.{same_lists}
 use Rattle.variations.specs.declared.delta.GlyphDelta.{GlyphDelta}
 use Rattle.variations.specs.Deltas.{deltas_of}
-use Rattle.variations.proofs.GapCuts.{points_keep, points_skip, points_end}
 use Rattle.counts.proofs.Classes.{refuted}
-use Rattle.counting.specs.PointSets.{mix, no_delta, required_at, points_itself}
+use Rattle.counting.specs.PointSets.{no_delta, required_at, points_itself}
 
 abbrev points : ℕ → List GlyphDelta → List ℕ
 points n ds = required_from n (deltas_of ds)
@@ -50,27 +52,19 @@ same_not xs ys k ne = sym (refuted (same_list eqb (points 0 xs) (points 0 ys)) (
     let q : points 0 xs ≡ points 0 ys = same_lists eqb eqb-true (points 0 xs) (points 0 ys) e in
     ne (sym (has_point 0 k k xs (omega arith)) ∙ ap (λ (ps : List ℕ). any (eqb k) ps) q ∙ has_point 0 k k ys (omega arith))))
 
--- ---- the test of one point
-pub agree_yes : (x y r : Bool) → r ≡ true → r ≡ cond x y (not y) → x ≡ y
-agree_yes true true r e f = refl
-agree_yes true false r e f = sym e ∙ f
-agree_yes false true r e f = sym f ∙ e
-agree_yes false false r e f = refl
-
-pub agree_no : (x y r : Bool) → r ≡ false → r ≡ cond x y (not y) → x ≡ y → ⊥
-agree_no true true r e f q = true≢false (sym f ∙ e)
-agree_no true false r e f q = true≢false q
-agree_no false true r e f q = true≢false (sym q)
-agree_no false false r e f q = true≢false (sym f ∙ e)
-
--- ---- the hash, point by point
-pub hash_step : (ds : List GlyphDelta) (i h r : ℕ) → i < length ds → r ≡ cond (required_at ds i) (mix h i) h →
-    fold mix r (points (i + 1) (drop (i + 1) ds)) ≡ fold mix h (points i (drop i ds))
-hash_step ds i h r l e = by (required_at ds i) refl
-  where
-    by : (b : Bool) → required_at ds i ≡ b → fold mix r (points (i + 1) (drop (i + 1) ds)) ≡ fold mix h (points i (drop i ds))
-    by true q = ap (λ (x : ℕ). fold mix x (points (i + 1) (drop (i + 1) ds))) (e ∙ cond-true _ _ _ q) ∙ ap (λ (ps : List ℕ). fold mix h ps) (sym (points_keep ds i no_delta l q))
-    by false q = ap (λ (x : ℕ). fold mix x (points (i + 1) (drop (i + 1) ds))) (e ∙ cond-false _ _ _ q) ∙ ap (λ (ps : List ℕ). fold mix h ps) (sym (points_skip ds i no_delta l q))
-
-pub hash_end : (ds : List GlyphDelta) (i h : ℕ) → length ds ≤ i → fold mix h (points i (drop i ds)) ≡ h
-hash_end ds i h l = ap (λ (ps : List ℕ). fold mix h ps) (points_end ds i l)
+-- ---- all points below n tested, n beyond both lists
+pub same_from_all : (xs ys : List GlyphDelta) (n : ℕ) (r : Bool) → length xs ≤ n → length ys ≤ n →
+    MatchBool r (AllWithin (λ k. required_at xs k ≡ required_at ys k) (range_with_len 0 n) 0 (length (range_with_len 0 n)))
+    ((k : ℕ) × (k < length (range_with_len 0 n)) × HoldsAt (λ k. required_at xs k ≡ required_at ys k → ⊥) (range_with_len 0 n) k) →
+    r ≡ same_list eqb (points 0 xs) (points 0 ys)
+same_from_all xs ys n true lx ly h = same_yes xs ys (λ k. elim (cases_lt k n) [
+  | inl l ↦
+      let w : k < length (range_with_len 0 n) = omega (arith, length-range_with_len 0 n) in
+      let e : get_or (range_with_len 0 n) k 0 ≡ k = get_or-range_with_len 0 n k 0 l ∙ omega arith in
+      subst (λ (j : ℕ). required_at xs j ≡ required_at ys j) e (h k 0 (omega arith) w)
+  | inr l ↦
+      let mx : length xs ≤ k = omega arith in
+      let my : length ys ≤ k = omega arith in
+      ap (λ (d : GlyphDelta). d.required) (get_or_past xs k no_delta mx ∙ sym (get_or_past ys k no_delta my))
+])
+same_from_all xs ys n false lx ly h = same_not xs ys (get_or (range_with_len 0 n) h.0 0) (h.2 0)

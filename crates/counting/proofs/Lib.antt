@@ -1,7 +1,7 @@
 mod Flags
-mod Packed
+pub mod Packed
 mod SharedSets
 mod Views
-mod Marks
+pub mod Marks
 mod Parts
 mod Ranks

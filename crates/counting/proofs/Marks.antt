@@ -13,10 +13,10 @@ use Rattle.sets.specs.Views.{all_variations, no_glyph, Lies}
 use Rattle.counting.specs.Counted.{marks, all_marks, MarksHeld}
 use Rattle.counting.specs.Marked.{KeepsRanks, MarkedTo}
 
-marks_long : (vs : List Variation) → length (marks vs) ≡ length vs
+pub marks_long : (vs : List Variation) → length (marks vs) ≡ length vs
 marks_long vs = length-map vs (λ v. is_shared (shared_points (point_sets vs)) (stored_points v.deltas))
 
-all_long : (gs : List Glyph) → length (all_marks gs) ≡ length (all_variations gs)
+pub all_long : (gs : List Glyph) → length (all_marks gs) ≡ length (all_variations gs)
 all_long [] = refl
 all_long (g ∷ gs) =
     let a = length-append (marks g.variations) (all_marks gs) in

@@ -44,8 +44,8 @@ packed_most ps =
     let a = length-append (count_bytes (length ps)) (joined (map gap_run_bytes (cut_gaps_at_most (length ps) (gaps_after 0 ps)))) in
     omega arith
 
-pub stored_most : (ds : List Delta) → length (packed_points (stored_points ds)) ≤ 3 * length ds + 2
-stored_most ds = by (stores_all ds)
+pub points_most : (ds : List Delta) → length (packed_points (stored_points ds)) ≤ 3 * length ds + 2
+points_most ds = by (stores_all ds)
   where
     by : (b : Bool) → length (packed_points (cond b every (only (required_from 0 ds)))) ≤ 3 * length ds + 2
     by true = omega arith

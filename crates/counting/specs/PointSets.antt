@@ -1,33 +1,33 @@
 -- The point sets of a span of a set's variations, and their hashes.
-use Rattle.std.specs.Prelude.{◌≡◌, ℕ, ◌+◌, ◌-◌, ◌*◌, ◌%◌, ◌<◌, Bool, true, false, List, [], ◌∷◌, length, get_or, take, drop, pos, Decides, fold, nat_eq, slice_index_or, refl}
+use Rattle.std.specs.Prelude.{◌≡◌, ℕ, ◌+◌, ◌-◌, ◌*◌, ◌<◌, Bool, true, false, List, [], ◌∷◌, length, get_or, take, drop, pos, Decides, fold, nat_eq, slice_index_or, refl}
 use Rattle.std.proofs.Common.{ap, subst}
 use Rattle.std.proofs.lemmas.Bool.{eq-eqb}
-use Rattle.format.specs.Account.{Variation}
+use Rattle.format.specs.Account.{Glyph, Variation}
 use Rattle.format.specs.Bytes.{same_list}
 use Rattle.format.specs.Glyphs.{point_sets, same_points, same_set}
 use Rattle.format.specs.Packed.{Points, every, only, packed_points}
 use Rattle.format.proofs.Alike.{same_sets}
+use Rattle.counts.specs.Hashes.{mix}
 use Rattle.counts.specs.Sameness.{Sameness, sameness_by_key}
-use Rattle.sets.specs.declared.set.Set.{Set}
-use Rattle.sets.specs.OfSet.{glyphs_of}
+use Rattle.sets.specs.declared.view.Span.{Span}
 use Rattle.sets.specs.Views.{all_variations}
 use Rattle.variations.specs.declared.delta.GlyphDelta.{GlyphDelta}
 
 -- the variations of a span
-abbrev pub spanned : Set → ℕ → ℕ → List Variation
-spanned s first count = take count (drop first (all_variations (glyphs_of s)))
+abbrev pub spanned : List Glyph → Span → List Variation
+spanned gs p = take p.count (drop p.first (all_variations gs))
 
 -- the points that the table stores of each
-abbrev pub sets_of : Set → ℕ → ℕ → List Points
-sets_of s first count = point_sets (spanned s first count)
+abbrev pub sets_of : List Glyph → Span → List Points
+sets_of gs p = point_sets (spanned gs p)
 
 -- a hash with one point more, and the hash of a point set
-abbrev pub mix : ℕ → ℕ → ℕ
-mix h p = (h + p + 1) * 1103515245 % 4294967291
+abbrev pub mix_point : ℕ → ℕ → ℕ
+mix_point h p = mix h (p + 1)
 
 abbrev pub hash_of : Points → ℕ
 hash_of every = 0
-hash_of (only ps) = fold mix 0 ps
+hash_of (only ps) = fold mix_point 0 ps
 
 -- the score of a class of k point sets, whose first is point set c
 abbrev pub worth_of : List Points → ℕ → ℕ → ℕ

@@ -6,7 +6,7 @@ ghost use Rattle.counts.specs.Cells.{marked_at};
 ghost use Rattle.sets.specs.OfSet.{glyphs_of};
 ghost use Rattle.sets.specs.Views.{all_variations};
 ghost use Rattle.counting.specs.Counted.{marks, RanksHeld, OrdersHeld, MarksHeld, Counted};
-ghost use Rattle.counting.specs.Marked.{KeepsRanks, MarkedTo};
+ghost use Rattle.counting.specs.Marked.{KeepsRanks, MarkedFrom, MarkedTo};
 ghost use Rattle.counting.specs.PointSets.{spanned};
 
 use crate::point_sets::PointSets;
@@ -30,7 +30,7 @@ fn count_peaks(set: &Set, cells: &mut [CountCell]) -> usize
     let n = set.variation_count();
     let peaks = Peaks::over(set.axis_values(), set.axis_count() as usize, n);
     let mut table = CountTable::over(cells);
-    table.fill(&peaks);
+    table.fill(&peaks).unwrap();
     let repeated = table.repeated(n);
     table.rank(&peaks);
     repeated.min(MOST_SHARED)
@@ -38,12 +38,12 @@ fn count_peaks(set: &Set, cells: &mut [CountCell]) -> usize
 
 // Marks those of a glyph's variations whose points it shares, in cells of their own.
 fn mark_part(points: &PointSets, cells: &mut [CountCell])
-    requires { points.now.count ≤ length cells.old }
-    ensures marks { (i : ℕ) → i < points.now.count → marked_at cells.new i ≡ slice_index_or (marks (spanned points.now.set.now points.now.first points.now.count)) i false }
+    requires { points.now.span.count ≤ length cells.old }
+    ensures marks { (i : ℕ) → i < points.now.span.count → marked_at cells.new i ≡ slice_index_or (marks (spanned (glyphs_of points.now.set.now) points.now.span)) i false }
     ensures rest { KeepsRanks cells.old cells.new }
 {
     let mut table = CountTable::over(cells);
-    table.fill(points);
+    table.fill(points).unwrap();
     table.mark_best(points);
 }
 
@@ -52,14 +52,13 @@ fn mark_span(set: &Set, span: Span, cells: &mut [CountCell])
     requires few { span.count ≤ 4095 }
     requires inside { span.first + span.count ≤ length (all_variations (glyphs_of set.now)) }
     requires within { span.first + span.count ≤ length cells.old }
-    ensures marks { (i : ℕ) → i < span.count → marked_at cells.new (span.first + i) ≡ slice_index_or (marks (spanned set.now span.first span.count)) i false }
+    ensures marks { MarkedFrom (glyphs_of set.now) span cells.new }
     ensures before { (k : ℕ) → k < span.first → marked_at cells.new k ≡ marked_at cells.old k }
     ensures rest { KeepsRanks cells.old cells.new }
 {
     let points = PointSets::over(set, span);
-    let first = span.first;
-    let end = first + span.count;
-    mark_part(&points, &mut cells[first..end]);
+    let Span { first, count } = span;
+    mark_part(&points, &mut cells[first..first + count]);
 }
 
 // The same for the glyph at a place, when those before it are done.
@@ -70,10 +69,8 @@ fn mark_glyph(set: &Set, at: usize, cells: &mut [CountCell])
     ensures done { MarkedTo (glyphs_of set.now) (at + 1) cells.new }
     ensures rest { KeepsRanks cells.old cells.new }
 {
-    match set.span_at(at) {
-        Some(span) => mark_span(set, span, cells),
-        None => {}
-    }
+    let span = set.span_at(at).unwrap();
+    mark_span(set, span, cells);
 }
 
 // Marks the variations whose points their glyphs share.

@@ -2,87 +2,77 @@
 ghost use Rattle.std.specs.Prelude.{◌≡◌, ◌+◌, ◌^◌, ◌<◌, ◌≤◌, length, slice_index_or};
 ghost use Rattle.format.specs.Glyphs.{same_set};
 ghost use Rattle.format.specs.Packed.{every};
-ghost use Rattle.sets.specs.OfSet.{glyphs_of};
-ghost use Rattle.sets.specs.Views.{all_variations};
+ghost use Rattle.sets.specs.OfSet.{account_of, glyphs_of};
+ghost use Rattle.sets.specs.Views.{all_variations, no_variation, Shows};
 ghost use Rattle.counting.specs.PointSets.{sets_of, hash_of, worth_of, sets_sameness, sets_agree};
 
 use crate::required::{hash_stored, same_stored};
 use counts::items::{Items, Ranked};
 use sets::set::Set;
-use sets::view::Span;
+use sets::view::{GlyphDeltas, Span};
 
-// The variations of a glyph: `count` of the set's, from `first` on.
+// The variations of a span of the set's.
 #[derive(Clone, Copy)]
 pub struct PointSets<'s, 'a> {
     set: &'s Set<'a>,
-    first: usize,
-    count: usize,
-    ghost within: { first + count ≤ length (all_variations (glyphs_of set.now)) },
-    ghost few: { (count ≤ 4095) × (first + count < 2 ^ 64) },
+    span: Span,
+    ghost within: { span.first + span.count ≤ length (all_variations (glyphs_of set.now)) },
+    ghost few: { (span.count ≤ 4095) × (span.first + span.count < 2 ^ 64) },
 }
 
 impl<'s, 'a> PointSets<'s, 'a> {
     // The point sets of the variations of a span; of none where the set has no such span.
     pub fn over(set: &'s Set<'a>, span: Span) -> PointSets<'s, 'a>
         ensures set { result.set ≡ set.entry }
-        ensures none { length (all_variations (glyphs_of set.now)) < span.first + span.count → result.count ≡ 0 }
-        ensures span { span.count ≤ 4095 → span.first + span.count ≤ length (all_variations (glyphs_of set.now)) → (result.first ≡ span.first) × (result.count ≡ span.count) }
+        ensures none { length (all_variations (glyphs_of set.now)) < span.first + span.count → result.span.count ≡ 0 }
+        ensures span { span.count ≤ 4095 → span.first + span.count ≤ length (all_variations (glyphs_of set.now)) → result.span ≡ span }
     {
         let n = set.variation_count();
         if span.count > 4095 || span.count > n || span.first > n - span.count {
-            return PointSets {
-                set,
-                first: 0,
-                count: 0,
-            };
+            let none = Span { first: 0, count: 0 };
+            return PointSets { set, span: none };
         }
-        PointSets {
-            set,
-            first: span.first,
-            count: span.count,
-        }
+        PointSets { set, span }
+    }
+
+    // Variation i of the span.
+    fn view(&self, i: usize) -> GlyphDeltas<'_>
+        requires { i < self.now.span.count }
+        ensures { Shows (account_of self.now.set.now).axes result (slice_index_or (all_variations (glyphs_of self.now.set.now)) (self.now.span.first + i) no_variation) }
+    {
+        self.set.view(self.span.first + i).unwrap()
     }
 }
 
 impl<'s, 'a> Items for PointSets<'s, 'a> {
-    ghost size = { λ s. s.count };
+    ghost size = { λ s. s.span.count };
 
-    ghost alike = { λ s. same_set (sets_of s.set.now s.first s.count) };
+    ghost alike = { λ s. same_set (sets_of (glyphs_of s.set.now) s.span) };
 
-    ghost code = { λ s i. hash_of (slice_index_or (sets_of s.set.now s.first s.count) i every) };
+    ghost code = { λ s i. hash_of (slice_index_or (sets_of (glyphs_of s.set.now) s.span) i every) };
 
-    ghost sameness = { λ s. sets_sameness (sets_of s.set.now s.first s.count) s.count };
+    ghost sameness = { λ s. sets_sameness (sets_of (glyphs_of s.set.now) s.span) s.span.count };
 
-    ghost agrees = { λ s. sets_agree (sets_of s.set.now s.first s.count) s.count };
+    ghost agrees = { λ s. sets_agree (sets_of (glyphs_of s.set.now) s.span) s.span.count };
 
     fn count(&self) -> usize {
-        self.count
+        self.span.count
     }
 
     fn same(&self, i: usize, j: usize) -> bool {
-        if let Some(a) = self.set.view(self.first + i) {
-            if let Some(b) = self.set.view(self.first + j) {
-                return same_stored(a.deltas, a.stored.all, b.deltas, b.stored.all);
-            }
-        }
-        false
+        same_stored(&self.view(i), &self.view(j))
     }
 
     fn hash(&self, i: usize) -> u32 {
-        match self.set.view(self.first + i) {
-            Some(v) => hash_stored(v.deltas, v.stored.all),
-            None => 0,
-        }
+        hash_stored(&self.view(i))
     }
 }
 
 impl<'s, 'a> Ranked for PointSets<'s, 'a> {
-    ghost worth = { λ s. worth_of (sets_of s.set.now s.first s.count) };
+    ghost worth = { λ s. worth_of (sets_of (glyphs_of s.set.now) s.span) };
 
     fn score(&self, first: usize, count: usize) -> u64 {
-        match self.set.view(self.first + first) {
-            Some(v) => (count as u64 - 1) * v.stored.points as u64,
-            None => 0,
-        }
+        let points = self.view(first).stored.points;
+        (count as u64 - 1) * points as u64
     }
 }

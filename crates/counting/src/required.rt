@@ -1,75 +1,48 @@
 // Whether two variations store the same points, and a hash of these.
-ghost use Rattle.std.specs.Prelude.{◌≡◌, ◌<◌, ◌≤◌, not, length, if◌then◌else◌, fold, nat_eq};
+ghost use Rattle.std.specs.Prelude.{◌≡◌, ◌<◌, ◌≤◌, length, if◌then◌else◌, fold, nat_eq};
 ghost use Rattle.format.specs.Bytes.{same_list};
 ghost use Rattle.format.specs.Glyphs.{required_from, same_points};
 ghost use Rattle.variations.specs.Deltas.{deltas_of};
 ghost use Rattle.tuples.specs.Choice.{kept_points};
-ghost use Rattle.counting.specs.PointSets.{mix, hash_of, required_at};
+ghost use Rattle.counting.specs.PointSets.{mix_point, hash_of, required_at};
 
+use counts::hash::Hash;
+use sets::view::GlyphDeltas;
 use variations::delta::GlyphDelta;
-
-// A hash is below this prime.
-const HASH_PRIME: u64 = 4294967291;
-
-// What a hash is multiplied by at each point.
-const HASH_FACTOR: u64 = 1103515245;
 
 // Whether point i is required; none past the last is.
 fn is_required(deltas: &[GlyphDelta], i: usize) -> bool
     ensures { result ≡ required_at deltas.now i }
 {
-    if i < deltas.len() {
-        deltas[i].required
-    } else {
-        false
-    }
+    deltas.get(i).is_some_and(|delta| delta.required)
 }
 
-// Whether point i is required of both or of neither.
-fn agree_at(a: &[GlyphDelta], b: &[GlyphDelta], i: usize) -> bool
-    ensures { result ≡ (if required_at a.now i then required_at b.now i else not (required_at b.now i)) }
-{
-    if is_required(a, i) {
-        is_required(b, i)
-    } else {
-        !is_required(b, i)
-    }
-}
-
+// Whether the same points are required of both.
 fn same_required(a: &[GlyphDelta], b: &[GlyphDelta]) -> bool
     ensures { result ≡ same_list nat_eq (required_from 0 (deltas_of a.now)) (required_from 0 (deltas_of b.now)) }
 {
     let n = a.len().max(b.len());
-    for i in 0..n {
-        if !agree_at(a, b, i) {
-            return false;
-        }
-    }
-    true
+    (0..n).all(|i| is_required(a, i) == is_required(b, i))
 }
 
-// Whether variations with the deltas a and b store the same points, where each stores all or the required ones.
-pub(crate) fn same_stored(a: &[GlyphDelta], whole_a: bool, b: &[GlyphDelta], whole_b: bool) -> bool
-    ensures { result ≡ same_points (kept_points whole_a (deltas_of a.now)) (kept_points whole_b (deltas_of b.now)) }
+// Whether two variations store the same points, where each stores all or the required ones.
+pub(crate) fn same_stored(a: &GlyphDeltas<'_>, b: &GlyphDeltas<'_>) -> bool
+    ensures { result ≡ same_points (kept_points a.now.stored.all (deltas_of a.now.deltas.now)) (kept_points b.now.stored.all (deltas_of b.now.deltas.now)) }
 {
-    if whole_a {
-        return whole_b;
+    match (a.stored.all, b.stored.all) {
+        (true, true) => true,
+        (false, false) => same_required(a.deltas, b.deltas),
+        _ => false,
     }
-    if whole_b {
-        return false;
-    }
-    same_required(a, b)
 }
 
-// A hash, with a point mixed in where it is required.
-fn mixed(hash: u64, point: usize, required: bool) -> u64
-    requires hash { hash < 4294967291 }
-    requires point { point < 65536 }
-    ensures value { result ≡ (if required then mix hash point else hash) }
-    ensures fits { result < 4294967291 }
+// The hash with point i mixed in, as 1 more, where it is required.
+fn mixed(hash: Hash, i: usize, required: bool) -> Hash
+    requires { i < 65535 }
+    ensures { result.state ≡ (if required then mix_point hash.state i else hash.state) }
 {
     if required {
-        (hash + point as u64 + 1) * HASH_FACTOR % HASH_PRIME
+        hash.mix(i as u16 + 1)
     } else {
         hash
     }
@@ -77,22 +50,22 @@ fn mixed(hash: u64, point: usize, required: bool) -> u64
 
 fn hash_required(deltas: &[GlyphDelta]) -> u32
     requires { length deltas.now ≤ 32767 }
-    ensures { result ≡ fold mix 0 (required_from 0 (deltas_of deltas.now)) }
+    ensures { result ≡ fold mix_point 0 (required_from 0 (deltas_of deltas.now)) }
 {
-    let mut hash = 0;
-    for i in 0..deltas.len() {
-        hash = mixed(hash, i, deltas[i].required);
+    let mut hash = Hash::new();
+    for (i, delta) in deltas.iter().enumerate() {
+        hash = mixed(hash, i, delta.required);
     }
-    hash as u32
+    hash.value()
 }
 
-// The hash of the points that a variation with the deltas stores: all, or the required ones.
-pub(crate) fn hash_stored(deltas: &[GlyphDelta], whole: bool) -> u32
-    requires { length deltas.now ≤ 32767 }
-    ensures { result ≡ hash_of (kept_points whole (deltas_of deltas.now)) }
+// The hash of the points that a variation stores: all, or the required ones.
+pub(crate) fn hash_stored(variation: &GlyphDeltas<'_>) -> u32
+    requires { length variation.now.deltas.now ≤ 32767 }
+    ensures { result ≡ hash_of (kept_points variation.now.stored.all (deltas_of variation.now.deltas.now)) }
 {
-    if whole {
+    if variation.stored.all {
         return 0;
     }
-    hash_required(deltas)
+    hash_required(variation.deltas)
 }

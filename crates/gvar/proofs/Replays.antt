@@ -7,9 +7,8 @@ use Rattle.format.specs.Promise.{Kept}
 use Rattle.write.specs.Sinks.{Standing, Step}
 use Rattle.gvar.specs.declared.requests.Request.{Request}
 use Rattle.gvar.specs.declared.requests.Request.TheVariants.{Glyph, Variation, Compile}
-use Rattle.gvar.specs.declared.requests.Reply.{Reply}
 use Rattle.gvar.specs.Compiling.{meaning_of}
-use Rattle.gvar.specs.Runs.{Event, note, noted, call_of, calls_of, Made, Run, RunNoted, EveryCompileKept, Replayed}
+use Rattle.gvar.specs.Runs.{Reply, Event, note, noted, call_of, calls_of, Made, Run, RunNoted, EveryCompileKept, Replayed}
 
 -- Requests and replies
 

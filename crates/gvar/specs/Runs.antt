@@ -1,29 +1,34 @@
 -- Lists of calls from the opening of a set on, granted or refused, with compiles among them, all to one sink.
-use Rattle.std.specs.Prelude.{◌≡◌, ℕ, List, [], ◌∷◌, ◌++◌, map}
+use Rattle.std.specs.Prelude.{◌≡◌, ℕ, List, [], ◌∷◌, ◌++◌, map, Ok, Err, Result}
 use Rattle.std.proofs.Math.Option.{Option, none, some}
 use Rattle.format.specs.Account.{Account, Cells, Declined, Call, glyph, compile, refusal, next, opened}
 use Rattle.format.specs.Table.{Answer, granted, refused}
 use Rattle.format.specs.Promise.{Compiled, Kept}
 use Rattle.write.specs.Sinks.{Standing, Step}
 use Rattle.sets.specs.Given.{variation_call}
+use Rattle.sets.specs.declared.refusal.Refusal.{Refusal}
 use Rattle.sets.specs.Refusals.{declined_of}
 use Rattle.gvar.specs.declared.requests.Request.{Request}
 use Rattle.gvar.specs.declared.requests.Request.TheVariants.{Glyph, Variation, Compile}
-use Rattle.gvar.specs.declared.requests.Reply.{Reply}
-use Rattle.gvar.specs.declared.requests.Reply.TheVariants.{Accepted, Table, Refused}
+use Rattle.gvar.specs.declared.requests.Granted.{Granted}
+use Rattle.gvar.specs.declared.requests.Granted.TheVariants.{Accepted, Table}
 use Rattle.gvar.specs.Compiling.{meaning_of}
+
+-- a reply: what is granted, or why the call is refused
+abbrev pub Reply : Type 0
+Reply = Result Granted Refusal
 
 -- what a reply says of a glyph or a variation: accepted, or why it is refused
 abbrev pub addition_answer : Reply → Option (Option Declined)
-addition_answer Accepted = some none
-addition_answer (Table n) = none
-addition_answer (Refused e) = some (some (declined_of e))
+addition_answer (Ok Accepted) = some none
+addition_answer (Ok (Table n)) = none
+addition_answer (Err e) = some (some (declined_of e))
 
 -- what a reply says of a compile
 abbrev pub table_answer : Reply → Option Answer
-table_answer Accepted = none
-table_answer (Table n) = some (granted n)
-table_answer (Refused e) = some (refused (declined_of e))
+table_answer (Ok Accepted) = none
+table_answer (Ok (Table n)) = some (granted n)
+table_answer (Err e) = some (refused (declined_of e))
 
 -- a request that was met, its reply, and where the sink stood before and after it
 pub record Event : Type 0 where

@@ -1,10 +1,7 @@
 // From a set to its table in a sink: the conditions in number order, then the bytes.
-ghost use Rattle.std.specs.Prelude.{◌≡◌, true, length, replicate};
-ghost use Rattle.format.specs.Glyphs.{peaks_seen, shared_count};
-ghost use Rattle.format.specs.Table.{numbers_full, table_bytes};
+ghost use Rattle.std.specs.Prelude.{◌≡◌, length};
+ghost use Rattle.format.specs.Table.{table_bytes};
 ghost use Rattle.format.specs.Promise.{Compiled};
-ghost use Rattle.counts.specs.Cells.{blank};
-ghost use Rattle.counting.specs.Counted.{Counted};
 ghost use Rattle.parts.specs.OfParts.{parts_axes, parts_glyphs};
 ghost use Rattle.sets.specs.OfSet.{account_of, glyphs_of};
 ghost use Rattle.sets.specs.Refusals.{declined_of};
@@ -13,7 +10,6 @@ ghost use Rattle.gvar.specs.Compiling.{meaning_of, compiled_of, cells_after, Sin
 
 use counting::counting::count_all;
 use counts::cells::CountCell;
-use counts::table::CountTable;
 use parts::set_parts::SetParts;
 use sets::refusal::Refusal;
 use sets::set::Set;
@@ -38,11 +34,8 @@ fn fit_sizes(parts: &SetParts<'_, '_>) -> Result<(), Refusal>
     ensures { SizesAnswered (parts_glyphs parts.now) result }
 {
     for n in 0..parts.glyph_count() {
-        let store = parts.store_of(n);
-        match store_size(&store) {
-            Ok(_) => {}
-            Err(fault) => return Err(refused(n as u16, fault)),
-        }
+        let number = n as u16;
+        store_size(&parts.store_of(n)).map_err(|fault| refused(number, fault))?;
     }
     Ok(())
 }
@@ -51,46 +44,14 @@ fn fit_sizes(parts: &SetParts<'_, '_>) -> Result<(), Refusal>
 fn write_counted<S: Sink>(parts: &SetParts<'_, '_>, sink: &mut S) -> Result<usize, Refusal>
     ensures { Written S.step (parts_axes parts.now) (parts_glyphs parts.now) (S.stands sink.old) (S.stands sink.new) result }
 {
-    match fit_sizes(parts) {
-        Ok(()) => {}
-        Err(e) => return Err(e),
-    }
-    let layout = match lay_out(parts) {
-        Ok(layout) => layout,
-        Err(_) => return Err(Refusal::GlyphsTooLarge),
-    };
+    fit_sizes(parts)?;
+    let layout = lay_out(parts).map_err(|_| Refusal::GlyphsTooLarge)?;
     let length = table_length(parts, layout);
     if length > sink.allowance() {
         return Err(Refusal::SinkTooSmall);
     }
-    match feed_table(parts, layout, sink) {
-        Ok(()) => Ok(length),
-        Err(_) => Err(Refusal::SinkTooSmall),
-    }
-}
-
-// Hands over the table of a set whose numbers are full and whose peaks and point sets are counted in the cells.
-fn write_set<'s, 'a, S: Sink>(
-    set: &'s Set<'a>,
-    cells: &'s [CountCell],
-    peaks: usize,
-    sink: &mut S,
-) -> Result<usize, Refusal>
-    requires full { true ≡ numbers_full (glyphs_of set.now) }
-    requires counted { Counted (glyphs_of set.now) cells.now }
-    requires peaks { peaks ≡ shared_count (peaks_seen (glyphs_of set.now)) }
-    ensures { Written S.step (account_of set.now).axes (glyphs_of set.now) (S.stands sink.old) (S.stands sink.new) result }
-{
-    let parts = SetParts::new(set, cells, peaks);
-    write_counted(&parts, sink)
-}
-
-// Makes every cell zeros.
-fn clear(cells: &mut [CountCell])
-    ensures { cells.new ≡ replicate (length cells.old) blank }
-{
-    let mut table = CountTable::over(cells);
-    table.clear();
+    feed_table(parts, layout, sink).map_err(|_| Refusal::SinkTooSmall)?;
+    Ok(length)
 }
 
 // Hands the table of the set to the sink and answers its length; or refuses, by the first of 10 to 15 that applies, and
@@ -107,10 +68,13 @@ pub fn compile<S: Sink>(
     if !set.numbers_full() {
         return Err(Refusal::NumbersNotFull);
     }
-    let Some(peaks) = count_all(set, cells) else {
-        return Err(Refusal::TooFewCountCells);
+    let peaks = count_all(set, cells).ok_or(Refusal::TooFewCountCells)?;
+    let parts = SetParts {
+        set,
+        cells: &*cells,
+        peaks,
     };
-    let answer = write_set(&*set, &*cells, peaks, sink);
-    clear(cells);
+    let answer = write_counted(&parts, sink);
+    cells.fill(CountCell::zeros());
     answer
 }

@@ -1,38 +1,15 @@
 // A list of calls from the opening of a set on, granted or refused, with compiles among them, all to one sink.
 ghost use Rattle.std.specs.Prelude.{◌≡◌, length};
-ghost use Rattle.std.proofs.Math.Option.{some};
 ghost use Rattle.sets.specs.OfSet.{account_of};
-ghost use Rattle.sets.specs.Refusals.{answer_of};
-ghost use Rattle.gvar.specs.Compiling.{compiled_of};
-ghost use Rattle.gvar.specs.Runs.{addition_answer, table_answer, Made, RunNoted, Replayed};
+ghost use Rattle.gvar.specs.Runs.{Made, RunNoted, Replayed};
 
 use super::compile::compile;
-use super::requests::{Reply, Request};
+use super::requests::{Granted, Reply, Request};
 use counts::cells::CountCell;
 use sets::axis::AxisCount;
-use sets::cells::{GlyphCell, VariationCell};
-use sets::refusal::Refusal;
 use sets::set::Set;
-use variations::delta::GlyphDelta;
+use sets::stores::Stores;
 use write::sink::Sink;
-
-fn addition_reply(r: Result<(), Refusal>) -> Reply
-    ensures { addition_answer result ≡ some (answer_of r) }
-{
-    match r {
-        Ok(()) => Reply::Accepted,
-        Err(e) => Reply::Refused(e),
-    }
-}
-
-fn table_reply(r: Result<usize, Refusal>) -> Reply
-    ensures { table_answer result ≡ some (compiled_of r) }
-{
-    match r {
-        Ok(n) => Reply::Table(n),
-        Err(e) => Reply::Refused(e),
-    }
-}
 
 // Makes one call.
 fn make<S: Sink>(
@@ -45,9 +22,11 @@ fn make<S: Sink>(
     ensures cells { length cells.new ≡ length cells.old }
 {
     match *request {
-        Request::Glyph(n) => addition_reply(set.glyph(n)),
-        Request::Variation(tents, deltas) => addition_reply(set.variation(tents, deltas)),
-        Request::Compile => table_reply(compile(&*set, cells, sink)),
+        Request::Glyph(n) => set.glyph(n).map(|()| Granted::Accepted),
+        Request::Variation(tents, deltas) => set
+            .variation(tents, deltas)
+            .map(|()| Granted::Accepted),
+        Request::Compile => compile(&*set, cells, sink).map(|n| Granted::Table(n)),
     }
 }
 
@@ -62,26 +41,23 @@ fn make_all<S: Sink>(
     ensures { RunNoted S.step (length cells.old) requests.now replies.new (account_of set.old) (S.stands sink.old) (account_of set.new) (S.stands sink.new) }
 {
     let n = requests.len().min(replies.len());
-    for i in 0..n {
-        replies[i] = make(set, &requests[i], cells, sink);
+    for (i, request) in requests[..n].iter().enumerate() {
+        replies[i] = make(set, request, cells, sink);
     }
 }
 
 // Opens a set and makes the calls of a list in order, granted or refused, as far as there is room for the replies.
 pub fn replay<'a, S: Sink>(
     axes: AxisCount,
-    glyphs: &'a mut [GlyphCell],
-    variations: &'a mut [VariationCell],
-    values: &'a mut [i16],
-    deltas: &'a mut [GlyphDelta],
+    lent: Stores<'a>,
     requests: &[Request<'_>],
     replies: &mut [Reply],
     cells: &mut [CountCell],
     sink: &mut S,
 ) -> Set<'a>
-    ensures { Replayed S.step (length cells.old) axes.count (record { glyph = length glyphs.old; variation = length variations.old; axis = length values.old; delta = length deltas.old }) requests.now replies.new (S.stands sink.old) (account_of result) (S.stands sink.new) }
+    ensures { Replayed S.step (length cells.old) axes.count (record { glyph = length lent.entry.glyphs.now; variation = length lent.entry.variations.now; axis = length lent.entry.values.now; delta = length lent.entry.deltas.now }) requests.now replies.new (S.stands sink.old) (account_of result) (S.stands sink.new) }
 {
-    let mut set = Set::open(axes, glyphs, variations, values, deltas);
+    let mut set = Set::open(axes, lent);
     make_all(&mut set, requests, replies, cells, sink);
     set
 }

@@ -1,4 +1,4 @@
-// Calls that a set is asked for, and what they reply.
+// Calls that a set is asked for, and how they are answered.
 use sets::refusal::Refusal;
 use sets::tent::Tent;
 use variations::delta::GlyphDelta;
@@ -10,11 +10,14 @@ pub enum Request<'c> {
     Compile,
 }
 
-#[derive(Clone, Copy)]
-pub enum Reply {
+// What a call is granted.
+#[derive(Clone, Copy, PartialEq, Eq, Debug)]
+pub enum Granted {
     // A glyph was begun, or a variation added.
     Accepted,
     // A table of so many bytes was handed to the sink.
     Table(usize),
-    Refused(Refusal),
 }
+
+// The answer of a call.
+pub type Reply = Result<Granted, Refusal>;

@@ -1,28 +1,20 @@
 -- The points that a glyph shares, from the marks of its variations.
-use Rattle.std.proofs.Common.{◌≡◌, ℕ, ◌+◌, ◌<◌, Bool, true, false, cond, eqb, ltb, List, [], ◌∷◌, ◌++◌, length, get_or, sym, refl, ap, ◌∙◌, subst, arith, length-append, get_or-append-add}
+use Rattle.std.proofs.Common.{◌≡◌, ℕ, ◌+◌, ◌<◌, Bool, true, false, cond, eqb, ltb, List, [], ◌∷◌, ◌++◌, length, get_or, sym, refl, ap, ◌∙◌, subst, arith, get_or-append-add}
 use mathlib.Core.Option.{Option, none, some}
 use Rattle.std.proofs.lemmas.List.{get_or_append_left, get_or-map, length-map}
-use Rattle.std.proofs.lemmas.Bool.{both_ways, false≢true, ltb-true, eq-eqb, and_from, cond-true}
+use Rattle.std.proofs.lemmas.Bool.{both_ways, false≢true, ltb-true, cond-true}
 use Rattle.format.specs.Account.{Glyph, Variation}
-use Rattle.format.specs.Bytes.{same_list}
 use Rattle.format.specs.Glyphs.{stored_points, point_sets, same_points, same_set, set_count, set_score, shared_points, is_shared, shared_part}
-use Rattle.format.specs.Packed.{Points, every, only, packed_points}
+use Rattle.format.specs.Packed.{Points, every, packed_points}
 use Rattle.format.specs.Ranked.{ranked}
 use Rattle.format.specs.Table.{variations_of}
 use Rattle.format.proofs.Alike.{same_sets}
 use Rattle.format.proofs.Counts.{count_none}
-use Rattle.sets.specs.Views.{all_variations, no_variation, variations_before}
+use Rattle.sets.specs.Views.{no_variation, variations_before}
 use Rattle.counts.proofs.Classes.{refuted}
 use Rattle.counting.specs.Counted.{marks, all_marks}
-
-same_numbers : (ns : List ℕ) → same_list eqb ns ns ≡ true
-same_numbers [] = refl
-same_numbers (n ∷ ns) = and_from (eqb n n) (same_list eqb ns ns) (eq-eqb n n refl) (same_numbers ns)
-
--- points are the same as themselves
-same_points_itself : (p : Points) → same_points p p ≡ true
-same_points_itself every = refl
-same_points_itself (only ns) = same_numbers ns
+use Rattle.counting.specs.PointSets.{sets_itself}
+use Rattle.counting.proofs.Marks.{marks_long}
 
 -- the mark of a variation
 pub mark_at : (vs : List Variation) (j : ℕ) → j < length vs → get_or (marks vs) j false ≡ is_shared (shared_points (point_sets vs)) (stored_points (get_or vs j no_variation).deltas)
@@ -55,7 +47,7 @@ module _ (vs : List Variation) (h : (j : ℕ) → j < length vs → get_or (mark
     unlike j l = refuted (same_set sets j best) (λ t.
         let m : j < length vs = omega (arith, length-map vs (λ v. stored_points v.deltas)) in
         let q : get_or sets j every ≡ get_or sets best every = same_sets (get_or sets j every) (get_or sets best every) t in
-        let s : is_shared (some (get_or sets best every)) (get_or sets j every) ≡ true = subst (λ (p : Points). same_points (get_or sets best every) p ≡ true) (sym q) (same_points_itself (get_or sets best every)) in
+        let s : is_shared (some (get_or sets best every)) (get_or sets j every) ≡ true = subst (λ (p : Points). same_points (get_or sets best every) p ≡ true) (sym q) (sets_itself (get_or sets best every)) in
         let f : is_shared (shared_points sets) (stored_points (get_or vs j no_variation).deltas) ≡ false = sym (mark_at vs j m) ∙ h j m in
         let g : is_shared (shared_points sets) (stored_points (get_or vs j no_variation).deltas) ≡ is_shared (some (get_or sets best every)) (get_or sets j every) =
         ap (λ (o : Option Points). is_shared o (stored_points (get_or vs j no_variation).deltas)) shared_is ∙ ap (λ (p : Points). is_shared (some (get_or sets best every)) p) (sym (set_at j m)) in
@@ -76,22 +68,13 @@ module _ (vs : List Variation) (h : (j : ℕ) → j < length vs → get_or (mark
 
 -- The marks of a glyph among all marks
 
-pub marks_long : (gs : List Glyph) → length (all_marks gs) ≡ length (all_variations gs)
-marks_long [] = refl
-marks_long (g ∷ gs) =
-    let m = length-map g.variations (λ v. is_shared (shared_points (point_sets g.variations)) (stored_points v.deltas)) in
-    let a = length-append (marks g.variations) (all_marks gs) in
-    let b = length-append g.variations (all_variations gs) in
-    let r = marks_long gs in
-    omega arith
-
 -- a glyph's marks stand behind those of the glyphs before it
 pub marks_of_glyph : (n : ℕ) (gs : List Glyph) (j i : ℕ) → j < length (variations_of n gs) → i ≡ variations_before n gs + j → get_or (all_marks gs) i false ≡ get_or (marks (variations_of n gs)) j false
 marks_of_glyph n [] j i l e = absurd (omega arith)
 marks_of_glyph n (g ∷ gs) j i l e = by (eqb g.number n) l e (λ m k. marks_of_glyph n gs j k m)
   where
     long : length (marks g.variations) ≡ length g.variations
-    long = length-map g.variations (λ v. is_shared (shared_points (point_sets g.variations)) (stored_points v.deltas))
+    long = marks_long g.variations
 
     by : (t : Bool) → j < length (cond t g.variations (variations_of n gs)) → i ≡ cond t 0 (length g.variations + variations_before n gs) + j →
         (j < length (variations_of n gs) → (k : ℕ) → k ≡ variations_before n gs + j → get_or (all_marks gs) k false ≡ get_or (marks (variations_of n gs)) j false) →

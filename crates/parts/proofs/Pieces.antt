@@ -17,7 +17,8 @@ use Rattle.stores.specs.Parts.{variation_at, shared_of, header_in, data_in}
 use Rattle.stores.proofs.Owed.{shared_are, header_is, data_is}
 use Rattle.counting.specs.Counted.{marks}
 use Rattle.parts.proofs.Marks.{mark_at, shared_marked, shared_none}
-use Rattle.parts.proofs.Sizes.{points_most, stored_most}
+use Rattle.counting.proofs.Packed.{points_most}
+use Rattle.parts.proofs.Sizes.{stored_most}
 
 module _ (a : ℕ) (r : GlyphDeltas) (v : Variation) (h : Shows a r v) where
   pub deltas_few : length v.deltas ≤ 32767

@@ -33,12 +33,10 @@ impl<'s, 'a> TableParts for SetParts<'s, 'a> {
     }
 
     fn glyph_size(&self, n: usize) -> usize {
-        let store = self.store_of(n);
-        exact_size(&store)
+        exact_size(&self.store_of(n))
     }
 
     fn feed_glyph<S: Sink>(&self, n: usize, sink: &mut S) -> Result<(), SinkError> {
-        let store = self.store_of(n);
-        feed_store(&store, sink)
+        feed_store(&self.store_of(n), sink)
     }
 }

@@ -1,8 +1,9 @@
 // The header and the data of each variation of a glyph.
-ghost use Rattle.std.specs.Prelude.{◌≡◌, ℕ, ◌^◌, ◌<◌, ◌≤◌, true, false, length, MatchOption, slice_index_or};
+ghost use Rattle.std.specs.Prelude.{◌≡◌, ℕ, ◌+◌, ◌^◌, ◌<◌, ◌≤◌, true, false, length, MatchOption, slice_index_or};
 ghost use Rattle.format.specs.Glyphs.{peak, shared_index};
 ghost use Rattle.variations.specs.Deltas.{deltas_of};
 ghost use Rattle.tuples.specs.Data.{data_of};
+ghost use Rattle.counts.specs.Cells.{blank};
 ghost use Rattle.tuples.specs.Headers.{index_of, header_of};
 ghost use Rattle.sets.specs.OfSet.{account_of};
 ghost use Rattle.sets.specs.Views.{Shows};
@@ -11,8 +12,8 @@ ghost use Rattle.counting.specs.Counted.{marks};
 ghost use Rattle.parts.specs.OfStore.{store_peaks, store_variations};
 
 use super::GlyphStore;
+use counts::cells::CountCell;
 use sets::view::GlyphDeltas;
-use tuples::choice::StoredPoints;
 use tuples::data::VariationData;
 use tuples::header::{TupleVariationHeader, stores_region};
 
@@ -20,22 +21,18 @@ impl<'s, 'a> GlyphStore<'s, 'a> {
     // Variation j of the glyph, which there is.
     pub(crate) fn variation(&self, j: usize) -> GlyphDeltas<'_>
         requires { j < self.now.span.count }
-        ensures { Shows (account_of self.now.set.now).axes result (variation_at (store_variations self.now) j) }
+        ensures { Shows (account_of self.now.parts.set.now).axes result (variation_at (store_variations self.now) j) }
     {
-        match self.set.view(self.span.first + j) {
-            Some(v) => v,
-            None => GlyphDeltas {
-                peak: &[],
-                starts: &[],
-                ends: &[],
-                deltas: &[],
-                stored: StoredPoints {
-                    all: true,
-                    points: 0,
-                    values: 0,
-                },
-            },
-        }
+        self.parts.set.view(self.span.first + j).unwrap()
+    }
+
+    // Its cell.
+    fn cell(&self, j: usize) -> &CountCell
+        requires { j < self.now.span.count }
+        ensures { result.now ≡ slice_index_or self.now.parts.cells.now (self.now.span.first + j) blank }
+    {
+        let cells = self.parts.cells;
+        &cells[self.span.first + j]
     }
 
     // Whether it has the points that the glyph shares.
@@ -43,19 +40,14 @@ impl<'s, 'a> GlyphStore<'s, 'a> {
         requires { j < self.now.span.count }
         ensures { result ≡ slice_index_or (marks (store_variations self.now)) j false }
     {
-        self.cells[self.span.first + j].is_marked()
+        self.cell(j).is_marked()
     }
 
     // The first variation with the points that the glyph shares.
     pub(crate) fn first_shared(&self) -> Option<usize>
         ensures { MatchOption result ((j : ℕ) → j < self.now.span.count → slice_index_or (marks (store_variations self.now)) j false ≡ false) (λ j. (j < self.now.span.count) × (slice_index_or (marks (store_variations self.now)) j false ≡ true)) }
     {
-        for j in 0..self.span.count {
-            if self.is_shared(j) {
-                return Some(j);
-            }
-        }
-        None
+        (0..self.span.count).find(|j| self.is_shared(*j))
     }
 
     // The index of its peak among the shared ones; none where it is not shared.
@@ -63,12 +55,8 @@ impl<'s, 'a> GlyphStore<'s, 'a> {
         requires { j < self.now.span.count }
         ensures { index_of result ≡ shared_index (store_peaks self.now) (peak (variation_at (store_variations self.now) j)) }
     {
-        let rank = self.cells[self.span.first + j].rank();
-        if rank < self.peaks {
-            Some(rank as u16)
-        } else {
-            None
-        }
+        let rank = self.cell(j).rank();
+        (rank < self.parts.peaks).then(|| rank as u16)
     }
 
     // The number of bytes of its data, from the sizes that the set keeps.

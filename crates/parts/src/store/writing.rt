@@ -18,20 +18,18 @@ impl<'s, 'a> TupleVariations for GlyphStore<'s, 'a> {
 
     // The variations that share points have those of the first of them.
     fn shared_size(&self) -> usize {
-        match self.first_shared() {
-            Some(j) => self.variation(j).stored.points,
-            None => 0,
-        }
+        let Some(first) = self.first_shared() else {
+            return 0;
+        };
+        self.variation(first).stored.points
     }
 
     fn feed_shared<S: Sink>(&self, sink: &mut S) -> Result<(), SinkError> {
-        match self.first_shared() {
-            Some(j) => {
-                let v = self.variation(j);
-                point_numbers(v.deltas, v.stored.all).feed(sink)
-            }
-            None => Ok(()),
-        }
+        let Some(first) = self.first_shared() else {
+            return Ok(());
+        };
+        let v = self.variation(first);
+        point_numbers(v.deltas, v.stored.all).feed(sink)
     }
 
     fn header_size(&self, j: usize) -> usize {

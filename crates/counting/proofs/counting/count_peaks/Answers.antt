@@ -1,5 +1,4 @@
-use Rattle.std.proofs.Common.{◌≡◌, ℕ, ◌*◌, ◌≤◌, List, length, ℤ, sym, ap, ◌∙◌, subst, arith, Bor, MutBor, rules}
-use Rattle.std.proofs.lemmas.Bool.{le-leb}
+use Rattle.std.proofs.Common.{◌≡◌, ℕ, ◌*◌, List, length, ℤ, Result, OnOk, sym, ap, ◌∙◌, subst, Bor, rules}
 use Rattle.format.specs.Glyphs.{peaks_seen, same_peak}
 use Rattle.format.specs.Ranked.{count}
 use Rattle.format.specs.Table.{variation_count}
@@ -7,6 +6,7 @@ use Rattle.counts.specs.declared.cells.CountCell.{CountCell}
 use Rattle.counts.specs.Ranking.{Standing}
 use Rattle.counts.specs.Rows.{rows}
 use Rattle.counts.specs.Tables.{Filled}
+use Rattle.counts.specs.declared.too_few.TooFewCells.{TooFewCells}
 use Rattle.sets.specs.OfSet.{account_of, glyphs_of}
 use Rattle.counting.specs.Counted.{RanksHeld, OrdersHeld}
 use Rattle.counting.proofs.Ranks.{seen_long, enough, ranks_held, orders_held, shared_is}
@@ -21,10 +21,8 @@ returns c =
     let xs = c.axis_values.result.now in
     let p = c.over-peaks.result in
     let rs = rows p.axes p.values.now p.count in
-    let start = c.over-table.result.cells.now in
     let filling = c.fill.new.self.cells.now in
     let end = c.rank.new.self.cells.now in
-    let same : start ≡ c.args.cells.now = ap (λ (r : MutBor (List CountCell)). r.now) c.over-table.ensures in
     let number : n ≡ length ps = c.variation_count-n.ensures.all ∙ sym (seen_long gs) in
     let values : length xs ≡ 3 * c.axis_count.result * n =
     c.axis_values.ensures.long ∙ ap (λ (x : ℕ). 3 * x * variation_count gs) (sym c.axis_count.ensures.is) ∙ ap (λ (x : ℕ). 3 * c.axis_count.result * x) (sym c.variation_count-n.ensures.is) in
@@ -34,8 +32,7 @@ returns c =
     ∙ ap (λ (x : Bor (List ℤ)). rows axes x.now p.count) c.over-peaks.ensures.values
     ∙ ap (λ (x : ℕ). rows axes xs x) (k ∙ c.variation_count-n.ensures.is)
     ∙ c.axis_values.ensures.rows in
-    let long : p.count ≤ length start = subst (λ (x : List CountCell). p.count ≤ length x) (sym same) (let v = c.variation_count-n.ensures.all in omega (arith, v, k, c.requires)) in
-    let filled : Filled (same_peak rs) p.count filling = c.fill.ensures.filled (c.fill.ensures.refuses ∙ le-leb p.count (length start) long) in
+    let filled : Filled (same_peak rs) p.count filling = subst (λ (r : Result (Unit {0}) TooFewCells). OnOk r (Filled (same_peak rs) p.count filling)) c.unwrap.ensures c.fill.ensures.filled in
     let standing : Standing (same_peak rs) (λ i. count p.count (same_peak rs) i) p.count end = c.rank.ensures.ranked filled in
     record {
       shared = shared_is rs ps n c.repeated-repeated.result c.min.result e number (c.repeated-repeated.ensures.value (same_peak rs) (subst (λ (x : ℕ). Filled (same_peak rs) x filling) k filled)) c.min.ensures;

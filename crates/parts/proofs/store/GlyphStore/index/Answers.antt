@@ -1,20 +1,10 @@
-use Rattle.std.proofs.Common.{◌+◌, ap, ◌∙◌, arith}
-use Rattle.std.proofs.lemmas.List.{get_or_default}
+use Rattle.std.proofs.Common.{ap, ◌∙◌, rules, tests}
+use Rattle.std.proofs.lemmas.Option.{IfSome_then}
 use Rattle.counts.specs.declared.cells.CountCell.{CountCell}
-use Rattle.counts.specs.Cells.{blank}
-use Rattle.parts.proofs.Stores.{store_index, store_no_index}
+use Rattle.parts.proofs.Stores.{store_indexed}
 use Rattle.parts.proofs.store.GlyphStore.index.Goals as goal
 
-pub returns-then-rank-self : goal.returns-then-rank-self
-returns-then-rank-self c =
-    let s = c.args.self.now in
-    store_index s c.args.j c.requires c.rank-rank.result
-    (c.rank-rank.ensures ∙ ap (λ (x : CountCell). x.rank) (get_or_default s.cells.now (s.span.first + c.args.j) _ blank (omega (arith, s.within.1, s.within.2))))
-    c.if-rank-self.true
-
-pub returns-else-rank-self : goal.returns-else-rank-self
-returns-else-rank-self c =
-    let s = c.args.self.now in
-    store_no_index s c.args.j c.requires c.rank-rank.result
-    (c.rank-rank.ensures ∙ ap (λ (x : CountCell). x.rank) (get_or_default s.cells.now (s.span.first + c.args.j) _ blank (omega (arith, s.within.1, s.within.2))))
-    c.if-rank-self.false
+pub returns : goal.returns
+returns c =
+    store_indexed c.args.self.now c.args.j c.requires c.rank-rank.result (c.rank-rank.ensures ∙ ap (λ (x : CountCell). x.rank) c.cell.ensures)
+    c.then.result c.then.ensures.variant (IfSome_then c.then.result c.then.ensures.some (λ x p. search (rules, tests)))

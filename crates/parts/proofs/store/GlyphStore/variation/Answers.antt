@@ -1,5 +1,6 @@
+use Rattle.std.proofs.lemmas.Option.{MatchOption-at_some}
 use Rattle.parts.proofs.Stores.{store_shows}
 use Rattle.parts.proofs.store.GlyphStore.variation.Goals as goal
 
-pub returns-in-Some : goal.returns-in-Some
-returns-in-Some c = store_shows c.args.self.now c.args.j c.requires c.in-Some.v c.in-Some.ensures.1
+pub returns : goal.returns
+returns c = store_shows c.args.self.now c.args.j c.requires c.unwrap.result (MatchOption-at_some _ _ c.unwrap.result c.unwrap.ensures c.view.ensures).1

@@ -6,5 +6,5 @@ use Rattle.parts.proofs.set_parts.writing.SetPartsTableParts.feed_glyph.Goals as
 pub returns : goal.returns
 unfolding glyph_at
 returns g c =
-    let s = c.store_of-store.ensures in
+    let s = c.store_of.ensures in
     fed_as (λ i. glyph_bytes (s.peaks i) (s.variations i)) c.feed_store.ensures
