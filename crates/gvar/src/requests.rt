@@ -1,6 +1,6 @@
 // Calls that a set is asked for, and how they are answered.
 use sets::refusal::Refusal;
-use sets::tent::Tent;
+use tents::tent::Tent;
 use variations::delta::GlyphDelta;
 
 #[derive(Clone, Copy)]

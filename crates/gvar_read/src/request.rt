@@ -36,32 +36,37 @@ fn read_table(rt: &HostRuntime, name: &str) -> anyhow::Result<Vec<u8>> {
     Ok(fs::read(rt, name)?)
 }
 
+// The words that follow a table.
+fn read_glyphs(rt: &HostRuntime, words: &[String]) -> anyhow::Result<Glyphs> {
+    match words {
+        [] => Ok(Glyphs::None),
+        [all, counts] if all.as_str() == "all" => {
+            Ok(Glyphs::All(fs::read_to_string(rt, counts.as_str())?))
+        }
+        [glyph, points] => Ok(Glyphs::One {
+            glyph: glyph.parse::<u16>()?,
+            points: points.parse::<u16>()?,
+        }),
+        _ => bail!("{USAGE}"),
+    }
+}
+
 impl Request {
     // What the arguments ask for.
     pub fn read(rt: &HostRuntime) -> anyhow::Result<Request> {
         let words: Vec<String> = env::args(rt)?.skip(1).collect(rt.alloc())?;
-        let (bytes, glyphs) = match words.as_slice() {
-            [] => (
-                Vec::from_slice(rt.alloc(), &STORED)?,
-                Glyphs::One {
+        match words.as_slice() {
+            [] => Ok(Request {
+                bytes: Vec::from_slice(rt.alloc(), &STORED)?,
+                glyphs: Glyphs::One {
                     glyph: 0,
                     points: 1,
                 },
-            ),
-            [table] => (read_table(rt, table.as_str())?, Glyphs::None),
-            [table, all, counts] if all.as_str() == "all" => (
-                read_table(rt, table.as_str())?,
-                Glyphs::All(fs::read_to_string(rt, counts.as_str())?),
-            ),
-            [table, glyph, points] => (
-                read_table(rt, table.as_str())?,
-                Glyphs::One {
-                    glyph: glyph.parse::<u16>()?,
-                    points: points.parse::<u16>()?,
-                },
-            ),
-            _ => bail!("{USAGE}"),
-        };
-        Ok(Request { bytes, glyphs })
+            }),
+            [table, glyphs @ ..] => Ok(Request {
+                bytes: read_table(rt, table.as_str())?,
+                glyphs: read_glyphs(rt, glyphs)?,
+            }),
+        }
     }
 }

@@ -55,7 +55,7 @@ rows_long a xs (suc n) h =
 pub each_axis : (s : Set) → AllByRecursion (λ p. length p ≡ (account_of s).axes) (peaks_seen (glyphs_of s))
 each_axis s =
     subst (λ (ps : List (List ℤ)). AllByRecursion (λ p. length p ≡ (account_of s).axes) ps) (peaks_are (stores s) (sound_of s))
-    (rows_long s.axes.count s.stores.values.now s.added s.within.2)
+    (rows_long s.axes.count s.values.now s.added s.within.2)
 
 pub count_is : (gs : List Glyph) → shared_count (peaks_seen gs) ≡ peak_count gs
 unfolding peak_count

@@ -1,5 +1,5 @@
 // A case: a table, the damage to it, and the glyph that is asked for.
-use anyhow::{Context, bail};
+use anyhow::bail;
 use std::alloc::Global;
 use std::collections::BTreeMap;
 use std::fmt;
@@ -17,6 +17,15 @@ pub struct Case<'a> {
     damage: &'a [&'a str],
 }
 
+// A place, and the word of its byte, which may be missing at the end.
+fn place_of<'a>(pair: &[&'a str]) -> (&'a str, &'a str) {
+    match pair {
+        [place, byte, ..] => (*place, *byte),
+        [place] => (*place, ""),
+        [] => ("", ""),
+    }
+}
+
 impl<'a> Case<'a> {
     // The words NAME LENGTH GLYPH POINTS, with places and the bytes put there.
     pub fn of(words: &'a [&'a str]) -> anyhow::Result<Case<'a>> {
@@ -32,15 +41,13 @@ impl<'a> Case<'a> {
         })
     }
 
-    // So many bytes of the table, 00 past its end, with the damage.
+    // So many bytes of the table, 00 past its end and where no table has the name, with the damage.
     pub fn bytes(&self, alloc: Global, tables: &Tables) -> anyhow::Result<Vec<u8>> {
-        let table = tables.get(self.name).context("there is no such table")?;
-        let mut bytes = Vec::from_slice(alloc, table.as_slice())?;
+        let table = tables.get(self.name).map_or(&[], Vec::as_slice);
+        let mut bytes = Vec::from_slice(alloc, table)?;
         bytes.resize(self.length, 0)?;
         for pair in self.damage.chunks(2) {
-            let [place, byte] = pair else {
-                bail!("a place has no byte");
-            };
+            let (place, byte) = place_of(pair);
             if let Some(at) = bytes.get_mut(place.parse::<usize>()?) {
                 *at = u8::from_str_radix(byte, 16)?;
             }
@@ -59,8 +66,9 @@ impl fmt::Display for Case<'_> {
             damage,
         } = *self;
         write!(f, "{name} {length} {glyph} {points}")?;
-        for word in damage {
-            write!(f, " {word}")?;
+        for pair in damage.chunks(2) {
+            let (place, byte) = place_of(pair);
+            write!(f, " {place} {byte}")?;
         }
         Ok(())
     }

@@ -10,14 +10,16 @@ use case::{Case, Tables};
 use std::collections::BTreeMap;
 use std::io::{BufRead, BufReader, BufWriter, Stdout, Write};
 
-// The words NAME BYTE..
+// The words NAME BYTE.., of a table or of the next part of it.
 fn read_table(rt: &HostRuntime, tables: &mut Tables, words: &[&str]) -> anyhow::Result<()> {
+    let alloc = rt.alloc();
     let (name, bytes) = words.split_first().context("a table has no name")?;
-    let bytes: Vec<u8> = bytes
-        .iter()
-        .map(|byte| -> anyhow::Result<u8> { Ok(u8::from_str_radix(byte, 16)?) })
-        .try_collect(rt.alloc())?;
-    tables.insert(String::from_str(rt.alloc(), name)?, bytes)?;
+    let table = tables
+        .entry(String::from_str(alloc, name)?)?
+        .or_insert_with(|| Vec::new(alloc));
+    for byte in bytes {
+        table.push(u8::from_str_radix(byte, 16)?)?;
+    }
     Ok(())
 }
 

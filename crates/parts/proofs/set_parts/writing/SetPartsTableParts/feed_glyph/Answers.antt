@@ -1,6 +1,6 @@
 use Rattle.format.specs.Glyphs.{glyph_bytes}
 use Rattle.tables.specs.Parts.{glyph_at}
-use Rattle.tuples.proofs.Pieces.{fed_as}
+use Rattle.write.proofs.Feeding.{fed_as}
 use Rattle.parts.proofs.set_parts.writing.SetPartsTableParts.feed_glyph.Goals as goal
 
 pub returns : goal.returns

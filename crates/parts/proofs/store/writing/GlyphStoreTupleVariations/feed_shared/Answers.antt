@@ -1,7 +1,7 @@
 use Rattle.std.proofs.Common.{sym, ap, ◌∙◌, arith}
 use Rattle.format.specs.Packed.{packed_points}
 use Rattle.write.proofs.Laws.{handed_none}
-use Rattle.tuples.proofs.Pieces.{fed_as}
+use Rattle.write.proofs.Feeding.{fed_as}
 use Rattle.parts.specs.OfStore.{store_variations}
 use Rattle.parts.proofs.Stores.{store_long}
 use Rattle.parts.proofs.Pieces.{points_told, shared_told, none_shared}
