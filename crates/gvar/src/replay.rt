@@ -26,7 +26,7 @@ fn make<S: Sink>(
         Request::Variation(tents, deltas) => set
             .variation(tents, deltas)
             .map(|()| Granted::Accepted),
-        Request::Compile => compile(&*set, cells, sink).map(|n| Granted::Table(n)),
+        Request::Compile => compile(&*set, cells, sink).map(Granted::Table),
     }
 }
 
