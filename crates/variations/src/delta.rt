@@ -53,8 +53,11 @@ impl GlyphDelta {
 pub(crate) fn next_stored(deltas: &[GlyphDelta], all: bool, place: usize) -> Option<usize>
     ensures { NextStored all deltas.now place result }
 {
+    if all {
+        return (place < deltas.len()).then_some(place);
+    }
     for i in place..deltas.len() {
-        if all || deltas[i].required {
+        if deltas[i].required {
             return Some(i);
         }
     }
