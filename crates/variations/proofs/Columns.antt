@@ -4,8 +4,7 @@ use Rattle.std.proofs.lemmas.Bool.{cond-true, cond-false}
 use Rattle.std.proofs.lemmas.List.{drop_more, drop_all}
 use Rattle.variations.specs.declared.delta.GlyphDelta.{GlyphDelta}
 use Rattle.variations.specs.declared.delta.Coordinate.{Coordinate}
-use Rattle.variations.specs.Deltas.{coordinate_of, is_stored, column, next_stored}
-use Rattle.variations.proofs.Storing.{found, not_found}
+use Rattle.variations.specs.Deltas.{coordinate_of, is_stored, column, no_delta, NextStored}
 
 module _ (a : Coordinate) (all : Bool) (ds : List GlyphDelta) (i : ℕ) (o : GlyphDelta) where
   pub column_keep : i < length ds → is_stored all (get_or ds i o) ≡ true → column a all (drop i ds) ≡ coordinate_of a (get_or ds i o) ∷ column a all (drop (i + 1) ds)
@@ -18,24 +17,20 @@ pub column_end : (a : Coordinate) (all : Bool) (ds : List GlyphDelta) (i : ℕ) 
 column_end a all ds i h = rw (drop_all i ds h) refl
 
 -- none before a place is stored
-module _ (a : Coordinate) (all : Bool) (ds : List GlyphDelta) (p : ℕ) (o : GlyphDelta) where
-  column_to : (n : ℕ) → n ≤ length ds - p → ((k : ℕ) → p ≤ k → k < p + n → is_stored all (get_or ds k o) ≡ false) → column a all (drop p ds) ≡ column a all (drop (p + n) ds)
+module _ (a : Coordinate) (all : Bool) (ds : List GlyphDelta) (p : ℕ) where
+  column_to : (n : ℕ) → n ≤ length ds - p → ((k : ℕ) → p ≤ k → k < p + n → is_stored all (get_or ds k no_delta) ≡ false) → column a all (drop p ds) ≡ column a all (drop (p + n) ds)
   column_to zero h none = rw add-zero refl
   column_to (suc n) h none =
       column_to n (omega arith) (λ k i l. none k i (omega arith))
-      ∙ column_skip a all ds (p + n) o (omega arith) (none (p + n) (omega arith) (omega arith))
+      ∙ column_skip a all ds (p + n) no_delta (omega arith) (none (p + n) (omega arith) (omega arith))
       ∙ ap (λ m. column a all (drop m ds)) (omega arith)
 
-  pub column_found : (at : ℕ) → Some at ≡ next_stored all ds p → (p < at + 1) × (at + 1 ≤ length ds) × (column a all (drop p ds) ≡ coordinate_of a (get_or ds at o) ∷ column a all (drop (at + 1) ds))
-  column_found at e =
-      let f = found all ds p o at e in
-      let to : p + (at - p) ≡ at = omega (arith, f.further) in (
-        omega (arith, f.further),
-        omega (arith, f.inside),
-        rw to at (column_to (at - p) (omega (arith, f.inside)) (λ k h i. f.before k h (omega arith))) ∙ column_keep a all ds at o f.inside f.here,
-      )
+  pub column_found : (at : ℕ) → NextStored all ds p (Some at) → column a all (drop p ds) ≡ coordinate_of a (get_or ds at no_delta) ∷ column a all (drop (at + 1) ds)
+  column_found at f =
+      let to : p + (at - p) ≡ at = omega (arith, f.0) in
+      rw to at (column_to (at - p) (omega (arith, f.1)) (λ k h i. f.3 k h (omega arith))) ∙ column_keep a all ds at no_delta f.1 f.2
 
-  pub column_none : None ≡ next_stored all ds p → column a all (drop p ds) ≡ []
-  column_none e =
-      column_to (length ds - p) (omega arith) (λ k h i. not_found all ds p o e k h (omega arith))
+  pub column_none : NextStored all ds p None → column a all (drop p ds) ≡ []
+  column_none none =
+      column_to (length ds - p) (omega arith) (λ k h i. none k h (omega arith))
       ∙ column_end a all ds (p + (length ds - p)) (omega arith)

@@ -5,9 +5,8 @@ use Rattle.std.proofs.lemmas.List.{drop_more, drop_all}
 use Rattle.format.specs.Packed.{gaps_after}
 use Rattle.format.specs.Glyphs.{required_from}
 use Rattle.variations.specs.declared.delta.GlyphDelta.{GlyphDelta}
-use Rattle.variations.specs.Deltas.{deltas_of, next_stored}
+use Rattle.variations.specs.Deltas.{deltas_of, no_delta, NextStored}
 use Rattle.variations.specs.Gaps.{gaps_from}
-use Rattle.variations.proofs.Storing.{found, not_found}
 
 module _ (ds : List GlyphDelta) (i : ℕ) (o : GlyphDelta) where
   pub points_keep : i < length ds → (get_or ds i o).required ≡ true → required_from i (deltas_of (drop i ds)) ≡ i ∷ required_from (i + 1) (deltas_of (drop (i + 1) ds))
@@ -20,28 +19,24 @@ pub points_end : (ds : List GlyphDelta) (i : ℕ) → length ds ≤ i → requir
 points_end ds i h = rw (drop_all i ds h) refl
 
 -- none before a place is required
-module _ (ds : List GlyphDelta) (p : ℕ) (o : GlyphDelta) where
-  points_to : (n : ℕ) → n ≤ length ds - p → ((k : ℕ) → p ≤ k → k < p + n → (get_or ds k o).required ≡ false) →
+module _ (ds : List GlyphDelta) (p : ℕ) where
+  points_to : (n : ℕ) → n ≤ length ds - p → ((k : ℕ) → p ≤ k → k < p + n → (get_or ds k no_delta).required ≡ false) →
       required_from p (deltas_of (drop p ds)) ≡ required_from (p + n) (deltas_of (drop (p + n) ds))
   points_to zero h none = rw add-zero refl
   points_to (suc n) h none =
       points_to n (omega arith) (λ k i l. none k i (omega arith))
-      ∙ points_skip ds (p + n) o (omega arith) (none (p + n) (omega arith) (omega arith))
+      ∙ points_skip ds (p + n) no_delta (omega arith) (none (p + n) (omega arith) (omega arith))
       ∙ ap (λ m. required_from m (deltas_of (drop m ds))) (omega arith)
 
-  pub gap_found : (at : ℕ) → Some at ≡ next_stored false ds p → (p < at + 1) × (at + 1 ≤ length ds) × (gaps_from ds p ≡ (at - (p - 1)) ∷ gaps_from ds (at + 1))
-  gap_found at e =
-      let f = found false ds p o at e in
-      let to : p + (at - p) ≡ at = omega (arith, f.further) in
-      let past : at ≡ at + 1 - 1 = omega arith in (
-        omega (arith, f.further),
-        omega (arith, f.inside),
-        ap (gaps_after (p - 1)) (rw to at (points_to (at - p) (omega (arith, f.inside)) (λ k h i. f.before k h (omega arith))) ∙ points_keep ds at o f.inside f.here)
-            ∙ ap (λ b. (at - (p - 1)) ∷ gaps_after b (required_from (at + 1) (deltas_of (drop (at + 1) ds)))) past,
-      )
+  pub gap_found : (at : ℕ) → NextStored false ds p (Some at) → gaps_from ds p ≡ (at - (p - 1)) ∷ gaps_from ds (at + 1)
+  gap_found at f =
+      let to : p + (at - p) ≡ at = omega (arith, f.0) in
+      let past : at ≡ at + 1 - 1 = omega arith in
+      ap (gaps_after (p - 1)) (rw to at (points_to (at - p) (omega (arith, f.1)) (λ k h i. f.3 k h (omega arith))) ∙ points_keep ds at no_delta f.1 f.2)
+      ∙ ap (λ b. (at - (p - 1)) ∷ gaps_after b (required_from (at + 1) (deltas_of (drop (at + 1) ds)))) past
 
-  pub gap_none : None ≡ next_stored false ds p → gaps_from ds p ≡ []
-  gap_none e =
+  pub gap_none : NextStored false ds p None → gaps_from ds p ≡ []
+  gap_none none =
       ap (gaps_after (p - 1))
-      (points_to (length ds - p) (omega arith) (λ k h i. not_found false ds p o e k h (omega arith))
+      (points_to (length ds - p) (omega arith) (λ k h i. none k h (omega arith))
       ∙ points_end ds (p + (length ds - p)) (omega arith))

@@ -3,7 +3,6 @@ pub mod Reaching
 pub mod Cutting
 pub mod Filling
 -- deltas
-pub mod Storing
 pub mod Columns
 pub mod DeltaBytes
 -- points

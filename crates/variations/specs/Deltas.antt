@@ -1,5 +1,5 @@
 -- One coordinate of the deltas of a variation, as a list.
-use Rattle.std.specs.Prelude.{ℕ, ◌+◌, Bool, cond, ◌||◌, List, [], ◌∷◌, map, drop, ℤ, Option, position, option_map}
+use Rattle.std.specs.Prelude.{◌≡◌, ℕ, ◌<◌, ◌≤◌, Bool, true, false, cond, ◌||◌, List, [], ◌∷◌, map, length, get_or, drop, ℤ, pos, Some, None, Option}
 use Rattle.format.specs.Account.{Delta}
 use Rattle.variations.specs.declared.delta.GlyphDelta.{GlyphDelta}
 use Rattle.variations.specs.declared.delta.Coordinate.{Coordinate}
@@ -29,6 +29,15 @@ column a all (d ∷ ds) = let r = column a all ds in cond (is_stored all d) (coo
 abbrev pub values_from : PackedDeltas → ℕ → List ℤ
 values_from c place = column c.coordinate c.all (drop place c.deltas.now)
 
--- the place of the first delta from a place on that is stored
-abbrev pub next_stored : Bool → List GlyphDelta → ℕ → Option ℕ
-next_stored all ds place = option_map (λ n. place + n) (position (is_stored all) (drop place ds))
+-- stands for a delta that there is not
+abbrev pub no_delta : GlyphDelta
+no_delta = record { x = pos 0; y = pos 0; required = false }
+
+-- the place of the first delta from a place on that is stored, or that none is
+abbrev pub NextStored : Bool → List GlyphDelta → ℕ → Option ℕ → Type 0
+NextStored all ds place None = (k : ℕ) → place ≤ k → k < length ds → is_stored all (get_or ds k no_delta) ≡ false
+NextStored all ds place (Some at) =
+    (place ≤ at)
+    × (at < length ds)
+    × (is_stored all (get_or ds at no_delta) ≡ true)
+    × ((k : ℕ) → place ≤ k → k < at → is_stored all (get_or ds k no_delta) ≡ false)

@@ -1,6 +1,6 @@
 // What a variation says of one point.
-ghost use Rattle.std.specs.Prelude.{◌≡◌, true, false, position};
-ghost use Rattle.variations.specs.Deltas.{coordinate_of, is_stored, next_stored};
+ghost use Rattle.std.specs.Prelude.{◌≡◌, true, false};
+ghost use Rattle.variations.specs.Deltas.{coordinate_of, NextStored};
 
 // How far a point moves, and whether the movement must be stored: one that is not required may be left out.
 #[derive(Clone, Copy, PartialEq, Eq, Debug)]
@@ -49,18 +49,17 @@ impl GlyphDelta {
     }
 }
 
-// The place of the first delta that is stored: of all, or of those that are required.
-fn first_stored(deltas: &[GlyphDelta], all: bool) -> Option<usize>
-    ensures { result ≡ position (is_stored all) deltas.now }
-{
-    deltas.iter().position(|d| all || d.required)
-}
-
-// The same, from a place on.
+// The place of the first delta from a place on that is stored: of all, or of those that are required.
 pub(crate) fn next_stored(deltas: &[GlyphDelta], all: bool, place: usize) -> Option<usize>
-    ensures { result ≡ next_stored all deltas.now place }
+    ensures { NextStored all deltas.now place result }
 {
-    let later = deltas.get(place..)?;
-    let skipped = first_stored(later, all)?;
-    Some(place + skipped)
+    if all {
+        return (place < deltas.len()).then_some(place);
+    }
+    for i in place..deltas.len() {
+        if deltas[i].required {
+            return Some(i);
+        }
+    }
+    None
 }
