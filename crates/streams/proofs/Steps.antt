@@ -34,10 +34,6 @@ module _ {X : Type 0} where
   exact_length (x ∷ xs) past zero h = absurd h
   exact_length (x ∷ xs) past (suc k) h = ap suc (exact_length xs past k h)
 
-  pub exact_if : (b : Bool) (f : StreamFault) (a : Ahead X) (k : ℕ) → Exactly a k → Exactly (fails_if b f a) k
-  exact_if true f a k h = tt
-  exact_if false f a k h = h
-
   -- no end comes before the values do
   pub not_ended : (a : Ahead X) (past k : ℕ) → Exactly a (suc k) → a ≡ ends past → ⊥
   not_ended a past k h e = let z : suc k ≡ 0 = subst (λ (t : Ahead X). Exactly t (suc k)) e h in omega arith
