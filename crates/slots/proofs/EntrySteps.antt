@@ -1,5 +1,5 @@
 -- The parts of an entry, one after another.
-use Rattle.std.proofs.Common.{◌≡◌, ℕ, ◌<◌, ◌≤◌, Bool, true, List, [], length, drop, ℤ, Ok, ap, ◌∙◌}
+use Rattle.std.proofs.Common.{◌≡◌, ℕ, ◌<◌, ◌≤◌, Bool, List, [], length, drop, ℤ, Ok, ap, ◌∙◌}
 use Rattle.std.proofs.lemmas.List.{drop_more, drop_all}
 use Rattle.format.specs.Account.{Declined}
 use Rattle.format.specs.Packed.{Points}
@@ -8,7 +8,6 @@ use Rattle.format.specs.Reader.{Header, Checked, Entry, is_private, read_entry, 
 use Rattle.streams.specs.declared.points.PointSet.{PointSet}
 use Rattle.slots.specs.declared.entry.Parts.{Parts}
 use Rattle.streams.specs.Deltas.{PastDeltas}
-use Rattle.streams.specs.Points.{SetRead}
 use Rattle.slots.specs.Entries.{own_or_shared, PointsRead, EntryRead}
 
 -- the rest of an entry's reading after its points, and after its x

@@ -1,7 +1,7 @@
 -- The count of a stream of points, and the stream by its count.
 use Rattle.std.proofs.Common.{◌≡◌, ℕ, zero, suc, ◌+◌, ◌-◌, ◌<◌, ◌≤◌, Bool, true, false, cond, eqb, ltb, leb, List, [], ◌∷◌, length, get_or, drop, Ok, Err, sym, refl, ap, ◌∙◌, arith}
-use Rattle.std.proofs.lemmas.Bool.{cond-true, cond-false, eq-eqb, ne_eqb, eqb-false, ltb-true, ltb-false, lt-ltb, le-ltb, le-leb, lt-leb}
-use Rattle.std.proofs.lemmas.List.{drop_more, drop_all}
+use Rattle.std.proofs.lemmas.Bool.{cond-false, ne_eqb, eqb-false, ltb-true, ltb-false, le-ltb, le-leb, lt-leb}
+use Rattle.std.proofs.lemmas.List.{drop_more}
 use Rattle.format.specs.Account.{Declined}
 use Rattle.format.specs.Bytes.{pair}
 use Rattle.format.specs.Glyphs.{listed}

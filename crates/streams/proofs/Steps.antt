@@ -1,7 +1,6 @@
 -- What an answer says of what was ahead, and how many values a stream gives.
-use Rattle.std.proofs.Common.{◌≡◌, ℕ, zero, suc, Bool, true, false, List, [], ◌∷◌, ◌++◌, length, Some, None, Ok, is_some, Option as Maybe, sym, refl, ap, subst, arith}
-use Rattle.streams.specs.declared.fault.StreamFault.{StreamFault}
-use Rattle.streams.specs.Ahead.{Ahead, ends, fails, gives, answer_of, rest_of, give_all, fails_if}
+use Rattle.std.proofs.Common.{◌≡◌, ℕ, zero, suc, true, List, [], ◌∷◌, ◌++◌, length, Some, None, Ok, is_some, Option as Maybe, sym, refl, ap, subst, arith}
+use Rattle.streams.specs.Ahead.{Ahead, ends, fails, gives, answer_of, rest_of, give_all}
 
 module _ {X : Type 0} where
   -- how many values are ahead
