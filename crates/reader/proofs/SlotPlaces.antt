@@ -1,12 +1,11 @@
 -- The slot of a glyph in a table that was checked.
 use Rattle.std.proofs.Common.{◌≡◌, ℕ, zero, suc, ◌+◌, ◌-◌, ◌*◌, ◌<◌, ◌≤◌, Bool, true, false, cond, ◌||◌, ltb, leb, List, length, take, drop, sym, refl, ap, ◌∙◌, subst, ⊎_elim, arith}
-use mathlib.Core.Option.{none, some}
+use mathlib.Core.Option.{none}
 use Rattle.std.specs.List.{AllByRecursion}
 use Rattle.std.proofs.lemmas.Bool.{ltb-false, or_parts, cases_eq, leb-false}
 use Rattle.std.proofs.lemmas.List.{drop-take}
-use Rattle.format.specs.Account.{declined, Condition, first_of}
+use Rattle.format.specs.Account.{Condition, first_of}
 use Rattle.format.specs.Glyphs.{listed}
-use Rattle.format.specs.Streams.{fault}
 use Rattle.format.specs.Reader.{checked, word_at, long_at, offset_of, offset_condition, slot_bytes, table_conditions, read_bytes_of_slot, read_slot}
 use Rattle.format.proofs.Conditions.{Off, none_applies}
 use Rattle.reader.specs.declared.table.Head.{Head}
@@ -44,11 +43,6 @@ in_range : (n g p : ℕ) → (leb n g || ltb 32767 p) ≡ false → g < n
 in_range n g p e = leb-false n g (or_parts (leb n g) _ e).0
 
 module _ (bs : List ℕ) (g p : ℕ) where
-  pub call_wrong : (h : Head) → h ≡ head_of bs → (leb h.glyphs g || ltb 32767 p) ≡ true → read_slot (checked bs) g p ≡ fault (declined 20 (some g) none none)
-  call_wrong h e t =
-      let t' : (leb (word_at bs 12) g || ltb 32767 p) ≡ true = ap (λ x. leb x g || ltb 32767 p) (sym (ap (λ x. x.glyphs) e)) ∙ t in
-      rw t'
-
   slot_is : (leb (word_at bs 12) g || ltb 32767 p) ≡ false → read_slot (checked bs) g p ≡ read_bytes_of_slot (checked bs) g p (slot_bytes (checked bs) g) (long_at bs 16 + offset_of (checked bs) g)
   slot_is t = rw t
 

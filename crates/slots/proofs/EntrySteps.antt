@@ -1,5 +1,5 @@
 -- The parts of an entry, one after another.
-use Rattle.std.proofs.Common.{◌≡◌, ℕ, ◌<◌, ◌≤◌, Bool, true, List, [], length, drop, ℤ, Ok, ap, ◌∙◌}
+use Rattle.std.proofs.Common.{◌≡◌, ℕ, ◌<◌, ◌≤◌, Bool, List, [], length, drop, ℤ, Ok, ap, ◌∙◌}
 use Rattle.std.proofs.lemmas.List.{drop_more, drop_all}
 use Rattle.format.specs.Account.{Declined}
 use Rattle.format.specs.Packed.{Points}
@@ -8,11 +8,7 @@ use Rattle.format.specs.Reader.{Header, Checked, Entry, is_private, read_entry, 
 use Rattle.streams.specs.declared.points.PointSet.{PointSet}
 use Rattle.slots.specs.declared.entry.Parts.{Parts}
 use Rattle.streams.specs.Deltas.{PastDeltas}
-use Rattle.streams.specs.Points.{SetRead}
 use Rattle.slots.specs.Entries.{own_or_shared, PointsRead, EntryRead}
-
-pub own_set : (bs : List ℕ) (at p : ℕ) (s : Points) (b : Bool) (q : PointSet) → b ≡ true → SetRead bs at p q → PointsRead bs at p s b q
-own_set bs at p s b q e r = record { set = r.set; is_read = λ d. rw e (r.is_read d); number = r.number }
 
 -- the rest of an entry's reading after its points, and after its x
 abbrev after_points : Checked → (ℕ → ℕ → Declined) → ℕ → Header → Rest Points → Read Entry
@@ -27,21 +23,12 @@ after_x c d p h set x =
     nothing_left d y.place (entry_of c h p set x.value y.value) y.left
 
 module _ (c : Checked) (d : ℕ → ℕ → Declined) (p : ℕ) (s : Points) (h : Header) (bs : List ℕ) (at : ℕ) (b : Bool) (e : is_private h.index ≡ b) where
-  pub points_fault : (f : Declined) → own_or_shared d p s b (drop at bs) at ≡ fault f → read_entry c d p s h (drop at bs) at ≡ fault f
-  points_fault f r = rw e (ap (λ t. and_then t (after_points c d p h)) r)
-
   points_are : (set : Points) (x : ℕ) → own_or_shared d p s b (drop at bs) at ≡ found (rest set (drop x bs) x) → read_entry c d p s h (drop at bs) at ≡ after_points c d p h (rest set (drop x bs) x)
   points_are set x r = rw e (ap (λ t. and_then t (after_points c d p h)) r)
 
   module _ (set : Points) (x n : ℕ) (r : own_or_shared d p s b (drop at bs) at ≡ found (rest set (drop x bs) x)) (k : length (points_of p set) ≡ n) where
-    pub x_fault : (f : Declined) → read_deltas d n (drop x bs) x ≡ fault f → read_entry c d p s h (drop at bs) at ≡ fault f
-    x_fault f q = points_are set x r ∙ ap (λ t. and_then t (after_x c d p h set)) (ap (λ m. read_deltas d m (drop x bs) x) k ∙ q)
-
     x_is : (xs : List ℤ) (y : ℕ) → read_deltas d n (drop x bs) x ≡ found (rest xs (drop y bs) y) → read_entry c d p s h (drop at bs) at ≡ after_x c d p h set (rest xs (drop y bs) y)
     x_is xs y q = points_are set x r ∙ ap (λ t. and_then t (after_x c d p h set)) (ap (λ m. read_deltas d m (drop x bs) x) k ∙ q)
-
-    pub y_fault : (xs : List ℤ) (y : ℕ) → read_deltas d n (drop x bs) x ≡ found (rest xs (drop y bs) y) → (f : Declined) → read_deltas d n (drop y bs) y ≡ fault f → read_entry c d p s h (drop at bs) at ≡ fault f
-    y_fault xs y q f g = x_is xs y q ∙ ap (λ t. and_then t (λ y. nothing_left d y.place (entry_of c h p set xs y.value) y.left)) (ap (λ m. read_deltas d m (drop y bs) y) k ∙ g)
 
     pub y_is : (xs ys : List ℤ) (y end : ℕ) (left : List ℕ) → read_deltas d n (drop x bs) x ≡ found (rest xs (drop y bs) y) → read_deltas d n (drop y bs) y ≡ found (rest ys left end) →
         read_entry c d p s h (drop at bs) at ≡ nothing_left d end (entry_of c h p set xs ys) left

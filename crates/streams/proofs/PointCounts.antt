@@ -1,7 +1,7 @@
 -- The count of a stream of points, and the stream by its count.
 use Rattle.std.proofs.Common.{◌≡◌, ℕ, zero, suc, ◌+◌, ◌-◌, ◌<◌, ◌≤◌, Bool, true, false, cond, eqb, ltb, leb, List, [], ◌∷◌, length, get_or, drop, Ok, Err, sym, refl, ap, ◌∙◌, arith}
-use Rattle.std.proofs.lemmas.Bool.{cond-true, cond-false, eq-eqb, ne_eqb, eqb-false, ltb-true, ltb-false, lt-ltb, le-ltb, le-leb, lt-leb}
-use Rattle.std.proofs.lemmas.List.{drop_more, drop_all}
+use Rattle.std.proofs.lemmas.Bool.{cond-false, ne_eqb, eqb-false, ltb-true, ltb-false, le-ltb, le-leb, lt-leb}
+use Rattle.std.proofs.lemmas.List.{drop_more}
 use Rattle.format.specs.Account.{Declined}
 use Rattle.format.specs.Bytes.{pair}
 use Rattle.format.specs.Glyphs.{listed}
@@ -13,28 +13,12 @@ use Rattle.streams.proofs.Readings.{after_byte, after_word}
 
 -- the count by the code's tests
 module _ (bs : List ℕ) (at : ℕ) where
-  pub no_count : length bs ≤ at → Err (Points at) ≡ count_in (drop at bs) at
-  no_count h = rw (drop_all at bs h)
-
-  pub short_count : at < length bs → get_or bs at 0 < 128 → Ok (counted (get_or bs at 0) (at + 1)) ≡ count_in (drop at bs) at
-  short_count h l =
-      let t : ltb (get_or bs at 0) 128 ≡ true = lt-ltb _ _ l in
-      rw (drop_more bs at 0 h, t)
-
-  pub cut_count : at < length bs → 128 ≤ get_or bs at 0 → length bs - at < 2 → Err (Points at) ≡ count_in (drop at bs) at
-  cut_count h l s =
-      let t : ltb (get_or bs at 0) 128 ≡ false = le-ltb _ _ l in
-      rw (drop_more bs at 0 h, drop_all (at + 1) bs (omega arith), t)
-
   two_bytes : at + 1 < length bs → 128 ≤ get_or bs at 0 →
       count_in (drop at bs) at
       ≡ cond (eqb (pair (get_or bs at 0 - 128) (get_or bs (at + 1) 0)) 0) (Err (Points at)) (Ok (counted (pair (get_or bs at 0 - 128) (get_or bs (at + 1) 0)) (at + 2)))
   two_bytes h l =
       let t : ltb (get_or bs at 0) 128 ≡ false = le-ltb _ _ l in
       rw (drop_more bs at 0 (omega arith), drop_more bs (at + 1) 0 h, t)
-
-  pub zero_count : (n : ℕ) → at + 1 < length bs → 128 ≤ get_or bs at 0 → n ≡ pair (get_or bs at 0 - 128) (get_or bs (at + 1) 0) → n ≡ 0 → Err (Points at) ≡ count_in (drop at bs) at
-  zero_count n h l e z = sym (two_bytes h l ∙ cond-true _ _ _ (eq-eqb _ _ (sym e ∙ z)))
 
   pub long_count_is : (n : ℕ) → at + 1 < length bs → 128 ≤ get_or bs at 0 → n ≡ pair (get_or bs at 0 - 128) (get_or bs (at + 1) 0) → 0 < n → Ok (counted n (at + 2)) ≡ count_in (drop at bs) at
   long_count_is n h l e z =

@@ -1,7 +1,6 @@
 -- What an answer says of what was ahead, and how many values a stream gives.
-use Rattle.std.proofs.Common.{◌≡◌, ℕ, zero, suc, Bool, true, false, List, [], ◌∷◌, ◌++◌, length, Some, None, Ok, is_some, Option as Maybe, sym, refl, ap, subst, arith}
-use Rattle.streams.specs.declared.fault.StreamFault.{StreamFault}
-use Rattle.streams.specs.Ahead.{Ahead, ends, fails, gives, answer_of, rest_of, give_all, fails_if}
+use Rattle.std.proofs.Common.{◌≡◌, ℕ, zero, suc, true, List, [], ◌∷◌, ◌++◌, length, Some, None, Ok, is_some, Option as Maybe, sym, refl, ap, subst, arith}
+use Rattle.streams.specs.Ahead.{Ahead, ends, fails, gives, answer_of, rest_of, give_all}
 
 module _ {X : Type 0} where
   -- how many values are ahead
@@ -33,10 +32,6 @@ module _ {X : Type 0} where
   exact_length [] past k h = sym h
   exact_length (x ∷ xs) past zero h = absurd h
   exact_length (x ∷ xs) past (suc k) h = ap suc (exact_length xs past k h)
-
-  pub exact_if : (b : Bool) (f : StreamFault) (a : Ahead X) (k : ℕ) → Exactly a k → Exactly (fails_if b f a) k
-  exact_if true f a k h = tt
-  exact_if false f a k h = h
 
   -- no end comes before the values do
   pub not_ended : (a : Ahead X) (past k : ℕ) → Exactly a (suc k) → a ≡ ends past → ⊥
