@@ -3,11 +3,8 @@ use lib.Seq.{drop-nil}
 use Rattle.std.proofs.lemmas.List.{take_all}
 use Rattle.std.proofs.lemmas.List.Sums.{fold_more}
 use Rattle.letter.specs.Parity.{mixed}
-use Rattle.write.proofs.Laws.{handed_all, handed_full}
+use Rattle.write.proofs.Laws.{handed_all}
 use Rattle.letter.proofs.parity.ParitySink.take.Goals as goal
-
-pub returns-then-n-self : goal.returns-then-n-self
-returns-then-n-self c = handed_full (omega arith)
 
 pub loop-b-preserved : goal.loop-b-preserved
 loop-b-preserved c =
@@ -21,9 +18,10 @@ loop-b-preserved c =
 pub returns : goal.returns
 returns c =
     let bs = c.args.bytes.now in
+    let e = c.in_ok-spend.ensures.spent in
     handed_all
-    (omega arith)
-    c.loop-b.invariant.0
+    (omega (arith, e))
+    (omega (arith, e, c.loop-b.invariant.0))
     (c.loop-b.invariant.1 ∙ ap (fold mixed _) (take_all c.loop-b.b-index bs c.loop-b-test.false))
     (sym (drop-nil (length bs)))
     refl
