@@ -1,6 +1,6 @@
 // A glyph of a table as text.
+use crate::entry_tents::Tents;
 use crate::moves::MoveLines;
-use crate::tents::Tents;
 use reader::slot::Slot;
 use std::fmt;
 

@@ -2,6 +2,6 @@
 #![tactic(auto)]
 
 pub mod bytes;
+pub mod entry_tents;
 pub mod glyph;
 pub mod moves;
-pub mod tents;

@@ -1,5 +1,5 @@
 // The reader's answer on one line: the entries of a glyph, or the refusal.
-use printed::tents::Tents;
+use printed::entry_tents::Tents;
 use reader::entry::Entry;
 use reader::slot::open_glyph;
 use std::io::{BufWriter, Stdout, Write};
