@@ -44,11 +44,17 @@ pub enum Cells {
     Changed,
 }
 
+// Whether two cells tell the same: a cell shows a rank, an order and a mark.
+fn tell_same(a: &CountCell, b: &CountCell) -> bool {
+    (a.rank(), a.order(), a.is_marked()) == (b.rank(), b.order(), b.is_marked())
+}
+
 impl Cells {
     pub fn since(before: &[CountCell], after: &[CountCell]) -> Cells {
-        if after.iter().all(|cell| *cell == CountCell::zeros()) {
+        let zeros = CountCell::zeros();
+        if after.iter().all(|cell| tell_same(cell, &zeros)) {
             Cells::Zeros
-        } else if before == after {
+        } else if before.iter().zip(after).all(|(b, a)| tell_same(b, a)) {
             Cells::Same
         } else {
             Cells::Changed

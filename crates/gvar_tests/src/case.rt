@@ -34,7 +34,7 @@ impl<'a, 'w> Case<'a, 'w> {
         }
     }
 
-    // Makes the calls one after another, each named by a word.
+    // Makes the calls one after another, each named by a word. No line has more words than the loop has turns.
     pub fn run(&mut self) -> anyhow::Result<()> {
         for _ in 0..u64::MAX {
             match self.words.next() {

@@ -8,7 +8,6 @@ use printed::bytes::Bytes;
 use sets::refusal::Refusal;
 use sets::set::Set;
 use std::alloc::{AllocError, Global};
-use std::io;
 use std::io::Write;
 use write::buffer::Buffer;
 use write::checksum::Checksum;
@@ -29,7 +28,7 @@ fn compiled<S: Sink>(
 
 impl Case<'_, '_> {
     // Compiles to the sink and prints the answer; what became of the count cells is still to be printed.
-    fn compile_to<S: Sink>(&mut self, sink: &mut S) -> io::Result<Cells> {
+    fn compile_to<S: Sink>(&mut self, sink: &mut S) -> anyhow::Result<Cells> {
         let lent = &mut self.lent;
         let set = &lent.set;
         let (answer, cells) = compiled(self.alloc, set, lent.counts, sink)?;

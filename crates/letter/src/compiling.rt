@@ -5,8 +5,8 @@ use crate::session::Session;
 use crate::show::show_refused;
 use gvar::compile::compile;
 use printed::bytes::Bytes;
-use std::io;
 use std::io::{BufWriter, Stdout, Write};
+use std::{io, mem};
 use write::buffer::Buffer;
 use write::checksum::Checksum;
 use write::counter::Counter;
@@ -15,11 +15,11 @@ use write::sink::Sink;
 // No table is longer: the glyphs take at most 64 MiB, and offsets and shared peaks less than one more.
 const MOST_BYTES: usize = 68157440;
 
-// A table, and how many variations the set had when it was compiled.
+// The table last compiled to a buffer, and how many variations the set had then; none before the first.
 #[derive(Drop)]
 pub struct Kept {
     pub bytes: Vec<u8>,
-    pub variations: usize,
+    pub variations: Option<usize>,
 }
 
 impl Session<'_> {
@@ -49,17 +49,18 @@ impl Session<'_> {
 
     // A compile that is refused hands nothing over, so the table before it stays.
     fn compile_buffer(&mut self, line: &str, allowance: usize) -> anyhow::Result<()> {
-        let mut bytes = vec![in self.alloc; 0u8; allowance.min(MOST_BYTES)]?;
-        let mut buffer = Buffer::new(bytes.as_mut_slice());
+        let allowance = allowance.min(MOST_BYTES);
+        let mut bytes = mem::replace(&mut self.kept.bytes, Vec::new(self.alloc));
+        let before = bytes.len();
+        bytes.resize(before.max(allowance), 0)?;
+        let mut buffer = Buffer::new(&mut bytes.as_mut_slice()[..allowance]);
         let granted = self.compile_to(line, &mut buffer, |out, buffer| {
             writeln!(out, "table{}", Bytes(buffer.taken()))
         })?;
-        if let Some(length) = granted {
-            bytes.truncate(length);
-            self.kept = Some(Kept {
-                bytes,
-                variations: self.lent.set.variation_count(),
-            });
+        bytes.truncate(granted.unwrap_or(before));
+        self.kept.bytes = bytes;
+        if granted.is_some() {
+            self.kept.variations = Some(self.lent.set.variation_count());
         }
         Ok(())
     }

@@ -54,10 +54,10 @@ impl Session<'_> {
     // Prints the glyph with so many points of the kept table, and whether it is what was handed in before the compile.
     pub fn read(&mut self, line: Line<'_>, glyph: u16, points: u16) -> io::Result<()> {
         let Line { number, text } = line;
-        let Some(kept) = &self.kept else {
+        let Some(variations) = self.kept.variations else {
             return writeln!(self.out, "line {number}: no table is compiled to a buffer");
         };
-        let slot = match open_glyph(kept.bytes.as_slice(), glyph, points) {
+        let slot = match open_glyph(self.kept.bytes.as_slice(), glyph, points) {
             Ok(slot) => slot,
             Err(fault) => return writeln!(self.out, "{text}: {fault}"),
         };
@@ -69,7 +69,7 @@ impl Session<'_> {
         };
         write!(self.out, "{lines}")?;
         let set = &self.lent.set;
-        let span = span_within(set, glyph, kept.variations);
+        let span = span_within(set, glyph, variations);
         compare_glyph(self.out, set, span, slot)
     }
 }

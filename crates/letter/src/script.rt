@@ -36,7 +36,7 @@ fn show_no_call(
             writeln!(out, "line {number}: no call: {form} is wanted")?;
             Ok(())
         }
-        CallError::Memory(_) => Err(error.into()),
+        CallError::Memory(memory) => Err(memory.into()),
     }
 }
 

@@ -8,13 +8,13 @@ use std::alloc::Global;
 use std::io;
 use std::io::{BufWriter, Stdout, Write};
 
-// An open set, the table last compiled to a buffer, if one was, and where the answers are printed.
+// An open set, the table last compiled to a buffer, and where the answers are printed.
 #[derive(Drop)]
 pub struct Session<'a> {
     pub out: &'a mut BufWriter<Stdout>,
     pub alloc: Global,
     pub lent: Opened<'a>,
-    pub kept: Option<Kept>,
+    pub kept: Kept,
 }
 
 impl<'a> Session<'a> {
@@ -23,10 +23,14 @@ impl<'a> Session<'a> {
             out,
             alloc,
             lent,
-            kept: None,
+            kept: Kept {
+                bytes: Vec::new(alloc),
+                variations: None,
+            },
         }
     }
 
+    // Why the call cannot be run any more.
     fn late(&mut self, line: Line<'_>, why: &str) -> io::Result<()> {
         writeln!(self.out, "line {}: {why}", line.number)
     }

@@ -122,7 +122,7 @@ fn measure<F: Fn(&mut Tally, Slot<'_>) + Copy>(
     let all = bytes.len() as u128 * ROUNDS as u128;
     let speed = all / micros.max(1);
     eprintln!(rt; "{name}: {all} bytes in {micros} microseconds, {speed} MB/s")?;
-    last.map_err(|fault| anyhow!("the table was {fault}"))
+    last.map_err(|_| anyhow!("the table was refused"))
 }
 
 fn run(rt: &HostRuntime) -> anyhow::Result<()> {

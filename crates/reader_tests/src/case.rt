@@ -1,6 +1,5 @@
 // A case: a table, the damage to it, and the glyph that is asked for.
-use anyhow::bail;
-use std::alloc::Global;
+use std::alloc::{AllocError, Global};
 use std::collections::BTreeMap;
 use std::fmt;
 
@@ -14,44 +13,38 @@ pub struct Case<'a> {
     pub glyph: u16,
     pub points: u16,
     // places, each with the byte put there
-    damage: &'a [&'a str],
+    pub damage: &'a [&'a str],
 }
 
-// A place, and the word of its byte, which may be missing at the end.
-fn place_of<'a>(pair: &[&'a str]) -> (&'a str, &'a str) {
-    match pair {
-        [place, byte, ..] => (*place, *byte),
-        [place] => (*place, ""),
-        [] => ("", ""),
-    }
+// A place, and the word of the byte put there, which may be missing.
+#[derive(Clone, Copy)]
+pub struct Damage<'a> {
+    place: &'a str,
+    byte: &'a str,
+}
+
+// The word with the number i, empty past the last.
+fn word<'a>(words: &[&'a str], i: usize) -> &'a str {
+    words.get(i).copied().unwrap_or("")
 }
 
 impl<'a> Case<'a> {
     // The words NAME LENGTH GLYPH POINTS, with places and the bytes put there.
     pub fn of(words: &'a [&'a str]) -> anyhow::Result<Case<'a>> {
-        let [name, length, glyph, points, damage @ ..] = words else {
-            bail!("a case has no points");
-        };
         Ok(Case {
-            name,
-            length: length.parse::<usize>()?,
-            glyph: glyph.parse::<u16>()?,
-            points: points.parse::<u16>()?,
-            damage,
+            name: word(words, 0),
+            length: word(words, 1).parse::<usize>()?,
+            glyph: word(words, 2).parse::<u16>()?,
+            points: word(words, 3).parse::<u16>()?,
+            damage: words.get(4..).unwrap_or(&[]),
         })
     }
 
-    // So many bytes of the table, 00 past its end and where no table has the name, with the damage.
-    pub fn bytes(&self, alloc: Global, tables: &Tables) -> anyhow::Result<Vec<u8>> {
+    // So many bytes of the table, 00 past its end and where no table has the name.
+    pub fn bytes(&self, alloc: Global, tables: &Tables) -> Result<Vec<u8>, AllocError> {
         let table = tables.get(self.name).map_or(&[], Vec::as_slice);
         let mut bytes = Vec::from_slice(alloc, table)?;
         bytes.resize(self.length, 0)?;
-        for pair in self.damage.chunks(2) {
-            let (place, byte) = place_of(pair);
-            if let Some(at) = bytes.get_mut(place.parse::<usize>()?) {
-                *at = u8::from_str_radix(byte, 16)?;
-            }
-        }
         Ok(bytes)
     }
 }
@@ -63,13 +56,32 @@ impl fmt::Display for Case<'_> {
             length,
             glyph,
             points,
-            damage,
+            ..
         } = *self;
-        write!(f, "{name} {length} {glyph} {points}")?;
-        for pair in damage.chunks(2) {
-            let (place, byte) = place_of(pair);
-            write!(f, " {place} {byte}")?;
+        write!(f, "{name} {length} {glyph} {points}")
+    }
+}
+
+impl<'a> Damage<'a> {
+    // The words PLACE BYTE.
+    pub fn of(words: &[&'a str]) -> Damage<'a> {
+        Damage {
+            place: word(words, 0),
+            byte: word(words, 1),
+        }
+    }
+
+    // Puts the byte at its place, if that is inside.
+    pub fn put(&self, bytes: &mut [u8]) -> anyhow::Result<()> {
+        if let Some(at) = bytes.get_mut(self.place.parse::<usize>()?) {
+            *at = u8::from_str_radix(self.byte, 16)?;
         }
         Ok(())
+    }
+}
+
+impl fmt::Display for Damage<'_> {
+    fn fmt<W: fmt::Write>(&self, f: &mut fmt::Formatter<W>) -> fmt::Result {
+        write!(f, " {} {}", self.place, self.byte)
     }
 }

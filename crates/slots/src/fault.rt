@@ -117,24 +117,23 @@ impl SlotFault {
 // Number and place.
 impl fmt::Display for EntryFault {
     fn fmt<W: fmt::Write>(&self, f: &mut fmt::Formatter<W>) -> fmt::Result {
-        let number = self.number();
-        let place = self.place();
-        write!(f, "refused {number} entry place {place}")
+        match self {
+            EntryFault::Stream(fault) => write!(f, "{fault}"),
+            EntryFault::LeftOver(place) => write!(f, "refused 24 entry place {place}"),
+        }
     }
 }
 
 impl Error for EntryFault {}
 
-// Number, variation, if one is concerned, and place.
+// What is at fault, with the entry concerned, or number and place.
 impl fmt::Display for SlotFault {
     fn fmt<W: fmt::Write>(&self, f: &mut fmt::Formatter<W>) -> fmt::Result {
-        let number = self.number();
-        let place = self.place();
-        write!(f, "refused {number} slot")?;
-        if let Some(variation) = self.variation() {
-            write!(f, " variation {variation}")?;
+        match self {
+            SlotFault::Shared(fault) => write!(f, "{fault}"),
+            SlotFault::InEntry(variation, fault) => write!(f, "variation {variation}: {fault}"),
+            _ => write!(f, "refused {} slot place {}", self.number(), self.place()),
         }
-        write!(f, " place {place}")
     }
 }
 
