@@ -12,25 +12,25 @@ import os
 import re
 import sys
 
-# One kind a row: the point it belongs to, what it looks for, and the pattern of a line.
+# One kind a row: its topic, what it looks for, and the pattern of a line.
 LINES = {
-    'sentinel': (1, 'a number that says none by 0', r'//.*\bor 0\b|^\s*\w+ = \w+ - 1;|let j = at - 1;'),
-    'error-number': (1, 'a number or a bool as an error', r'Result<[^;{}]*, (u8|u16|u32|u64|usize|bool)>'),
-    'refused-bool': (1, 'a bool that says whether a call was refused', r'ensures refuses|-> io::Result<bool>|-> anyhow::Result<bool>'),
-    'flag': (1, 'a bool field', r'^\s+(pub )?(pub\(crate\) )?\w+: bool,$'),
-    'kind-bool': (1, 'a bool parameter', r'fn .*\b\w+: bool\b|^\s+\w+: bool,$'),
-    'own-enum': (1, 'an enum', r'\benum \w+'),
-    'law-number': (1, 'a number that a law answers', r'^    0$'),
-    'count-by-hand': (3, 'a loop with a condition', r'^\s*while '),
-    'range-loop': (3, 'a loop over numbers', r'\bfor \w+ in [^{]*\.\.'),
-    'next-by-hand': (3, 'a walk by next', r'while let Some\(\w+\) = \w+\.next\(\)'),
-    'bytes-by-hand': (4, 'bytes of a number by division or by place', r'/ 256|% 256|from_be_bytes\(\['),
-    'copy-by-hand': (4, 'a field copied from a value of the same type', r'^\s+(\w+): (cell|delta|self)\.\1,'),
-    'match-by-hand': (4, 'a match that a method of Option or Result makes', r'None => None|Some\(_\) => true|Ok\(\(\)\) => \{\}|Err\((_|e|j|f)\) => (return )?Err|Err\(_\) => None|None => \{\}|Ok\(\w\) => \w,'),
-    'same-by-hand': (4, 'an equality by hand', r'\.rank\(\) != |fn all_same|fn copied'),
-    'error-without-text': (4, 'an error type', r'pub (enum|struct) (\w*(Fault|Error|Refusal)|TooLarge|TooFewCells)\b'),
-    'batch': (6, 'a buffer with a length beside it', r'&(mut )?\[u8; ?\w+\]|\[0u8; \w+\]|used: usize|length: Option<usize>'),
-    'switch': (7, 'a value that picks a step', r'which: \w+|ends: bool|\bkind: Kind\b|else if call ==|coordinate: Coordinate'),
+    'sentinel': ('kinds and refusals', 'a number that says none by 0', r'//.*\bor 0\b|^\s*\w+ = \w+ - 1;|let j = at - 1;'),
+    'error-number': ('kinds and refusals', 'a number or a bool as an error', r'Result<[^;{}]*, (u8|u16|u32|u64|usize|bool)>'),
+    'refused-bool': ('kinds and refusals', 'a bool that says whether a call was refused', r'ensures refuses|-> io::Result<bool>|-> anyhow::Result<bool>'),
+    'flag': ('kinds and refusals', 'a bool field', r'^\s+(pub )?(pub\(crate\) )?\w+: bool,$'),
+    'kind-bool': ('kinds and refusals', 'a bool parameter', r'fn .*\b\w+: bool\b|^\s+\w+: bool,$'),
+    'own-enum': ('kinds and refusals', 'an enum', r'\benum \w+'),
+    'law-number': ('kinds and refusals', 'a number that a law answers', r'^    0$'),
+    'count-by-hand': ('loops', 'a loop with a condition', r'^\s*while '),
+    'range-loop': ('loops', 'a loop over numbers', r'\bfor \w+ in [^{]*\.\.'),
+    'next-by-hand': ('loops', 'a walk by next', r'while let Some\(\w+\) = \w+\.next\(\)'),
+    'bytes-by-hand': ('by hand', 'bytes of a number by division or by place', r'/ 256|% 256|from_be_bytes\(\['),
+    'copy-by-hand': ('by hand', 'a field copied from a value of the same type', r'^\s+(\w+): (cell|delta|self)\.\1,'),
+    'match-by-hand': ('by hand', 'a match that a method of Option or Result makes', r'None => None|Some\(_\) => true|Ok\(\(\)\) => \{\}|Err\((_|e|j|f)\) => (return )?Err|Err\(_\) => None|None => \{\}|Ok\(\w\) => \w,'),
+    'same-by-hand': ('by hand', 'an equality by hand', r'\.rank\(\) != |fn all_same|fn copied'),
+    'error-without-text': ('by hand', 'an error type', r'pub (enum|struct) (\w*(Fault|Error|Refusal)|TooLarge|TooFewCells)\b'),
+    'batch': ('buffers', 'a buffer with a length beside it', r'&(mut )?\[u8; ?\w+\]|\[0u8; \w+\]|used: usize|length: Option<usize>'),
+    'switch': ('switches', 'a value that picks a step', r'which: \w+|ends: bool|\bkind: Kind\b|else if call ==|coordinate: Coordinate'),
 }
 
 
@@ -109,10 +109,10 @@ def wide(tree):
 
 
 WALKS = {
-    'twins': (2, 'two functions of one shape', twins),
-    'names': (2, 'a name that stands in two files', names),
-    'clauses': (5, 'a clause that stands three times in a crate', clauses),
-    'wide': (5, 'a function of six parameters or more', wide),
+    'twins': ('twins', 'two functions of one shape', twins),
+    'names': ('twins', 'a name that stands in two files', names),
+    'clauses': ('facts that travel', 'a clause that stands three times in a crate', clauses),
+    'wide': ('facts that travel', 'a function of six parameters or more', wide),
 }
 
 
@@ -125,12 +125,12 @@ def main():
         del args[at:at + 2]
     for kind in args or list(LINES) + list(WALKS):
         if kind in LINES:
-            point, what, pattern = LINES[kind]
+            topic, what, pattern = LINES[kind]
             found = list(lines(tree, pattern))
         else:
-            point, what, walk = WALKS[kind]
+            topic, what, walk = WALKS[kind]
             found = list(walk(tree))
-        print(f'point {point}: {kind}: {what}: {len(found)}')
+        print(f'{topic}: {kind}: {what}: {len(found)}')
         for place in found:
             print('    ' + place)
 
