@@ -21,23 +21,6 @@ use Rattle.counts.specs.declared.cells.CountCell.{CountCell}
 use Rattle.counts.specs.Cells.{blank}
 use Rattle.gvar.specs.Compiling.{meaning_of, compiled_of, cells_after, SinkLeft, WrittenSo, Written}
 
--- What a result said before its error was mapped
-
-module _ {T E D : Type 0} (P : Result T E → Type 0) (R : E → D → Type 0) (r : Result T E) (s : Result T D) (mapped : MatchResult r (λ x. s ≡ Ok x) (λ e. IsErrAnd s (R e))) where
-  pub ok_told : (x : T) → s ≡ Ok x → P r → P (Ok x)
-  ok_told x q = by r mapped
-    where
-      by : (r : Result T E) → MatchResult r (λ y. s ≡ Ok y) (λ e. IsErrAnd s (R e)) → P r → P (Ok x)
-      by (Ok y) m h = let e : y ≡ x = cc in subst (λ (z : T). P (Ok z)) e h
-      by (Err e) m h = absurd (subst (λ t. IsErrAnd t (R e)) q m)
-
-  pub err_told : (d : D) → s ≡ Err d → P r → (e : E) × P (Err e) × R e d
-  err_told d q = by r mapped
-    where
-      by : (r : Result T E) → MatchResult r (λ y. s ≡ Ok y) (λ e. IsErrAnd s (R e)) → P r → (e : E) × P (Err e) × R e d
-      by (Ok y) m h = cc
-      by (Err e) m h = (e, h, subst (λ t. IsErrAnd t (R e)) q m)
-
 -- 12 and 13
 
 -- the sizes of glyph n fit where none of its conditions applies
