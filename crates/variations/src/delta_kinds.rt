@@ -3,7 +3,7 @@ ghost use Rattle.std.specs.Prelude.{◌≡◌};
 ghost use Rattle.variations.specs.DeltaForm.{stops, delta_form};
 ghost use Rattle.variations.specs.DeltaLaws.{delta_lawful};
 
-use crate::kinds::RunKind;
+use crate::run_kind::RunKind;
 use kinds::delta::DeltaKind;
 use write::sink::{Sink, SinkError};
 

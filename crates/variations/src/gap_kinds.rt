@@ -3,7 +3,7 @@ ghost use Rattle.std.specs.Prelude.{◌≡◌};
 ghost use Rattle.variations.specs.GapForm.{stops, gap_form};
 ghost use Rattle.variations.specs.GapLaws.{gap_lawful};
 
-use crate::kinds::RunKind;
+use crate::run_kind::RunKind;
 use kinds::point::PointKind;
 use write::sink::{Sink, SinkError};
 
