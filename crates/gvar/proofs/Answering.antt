@@ -1,5 +1,5 @@
 -- From what the passes of compile find to what compile promises.
-use Rattle.std.proofs.Common.{◌≡◌, ℕ, ◌+◌, ◌-◌, ◌<◌, ◌≤◌, true, false, ◌⊎◌, List, [], ◌∷◌, map, length, replicate, ℤ, Ok, Err, fold, Result, MatchResult, IsErrAnd, sym, refl, ap, ◌∙◌, subst, inl, inr, length-append}
+use Rattle.std.proofs.Common.{◌≡◌, ℕ, ◌+◌, ◌-◌, ◌<◌, ◌≤◌, true, false, ◌⊎◌, List, [], ◌∷◌, map, length, replicate, ℤ, Ok, Err, fold, Result, sym, refl, ap, ◌∙◌, subst, inl, inr, length-append}
 use mathlib.Core.Option.{Option, none, some}
 use lib.ListN.{length-map}
 use Rattle.std.proofs.lemmas.Bool.{lt-ltb, le-ltb}
