@@ -1,5 +1,5 @@
 -- From what the passes of compile find to what compile promises.
-use Rattle.std.proofs.Common.{◌≡◌, ℕ, ◌+◌, ◌-◌, ◌<◌, ◌≤◌, true, false, ◌⊎◌, List, [], ◌∷◌, map, length, replicate, ℤ, Ok, Err, fold, Result, MatchResult, IsErrAnd, sym, refl, ap, ◌∙◌, subst, inl, inr, length-append}
+use Rattle.std.proofs.Common.{◌≡◌, ℕ, ◌+◌, ◌-◌, ◌<◌, ◌≤◌, true, false, ◌⊎◌, List, [], ◌∷◌, map, length, replicate, ℤ, Ok, Err, fold, Result, sym, refl, ap, ◌∙◌, subst, inl, inr, length-append}
 use mathlib.Core.Option.{Option, none, some}
 use lib.ListN.{length-map}
 use Rattle.std.proofs.lemmas.Bool.{lt-ltb, le-ltb}
@@ -20,23 +20,6 @@ use Rattle.sets.specs.Refusals.{declined_of}
 use Rattle.counts.specs.declared.cells.CountCell.{CountCell}
 use Rattle.counts.specs.Cells.{blank}
 use Rattle.gvar.specs.Compiling.{meaning_of, compiled_of, cells_after, SinkLeft, WrittenSo, Written}
-
--- What a result said before its error was mapped
-
-module _ {T E D : Type 0} (P : Result T E → Type 0) (R : E → D → Type 0) (r : Result T E) (s : Result T D) (mapped : MatchResult r (λ x. s ≡ Ok x) (λ e. IsErrAnd s (R e))) where
-  pub ok_told : (x : T) → s ≡ Ok x → P r → P (Ok x)
-  ok_told x q = by r mapped
-    where
-      by : (r : Result T E) → MatchResult r (λ y. s ≡ Ok y) (λ e. IsErrAnd s (R e)) → P r → P (Ok x)
-      by (Ok y) m h = let e : y ≡ x = cc in subst (λ (z : T). P (Ok z)) e h
-      by (Err e) m h = absurd (subst (λ t. IsErrAnd t (R e)) q m)
-
-  pub err_told : (d : D) → s ≡ Err d → P r → (e : E) × P (Err e) × R e d
-  err_told d q = by r mapped
-    where
-      by : (r : Result T E) → MatchResult r (λ y. s ≡ Ok y) (λ e. IsErrAnd s (R e)) → P r → (e : E) × P (Err e) × R e d
-      by (Ok y) m h = cc
-      by (Err e) m h = (e, h, subst (λ t. IsErrAnd t (R e)) q m)
 
 -- 12 and 13
 

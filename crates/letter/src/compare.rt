@@ -32,10 +32,7 @@ impl fmt::Display for Difference {
 fn are_values<F: Fn(i16) -> i16>(given: &[i16], read: Tuple<'_>, bound: F) -> bool
     requires { F.IsAlwaysCallable bound }
 {
-    given.len() == read.len()
-        && given.iter().enumerate().all(|(i, value)| read
-            .get(i)
-            .is_some_and(|v| bound(v) == *value))
+    read.iter().map(bound).eq(given.iter().copied())
 }
 
 fn bounds_differ(given: GlyphDeltas<'_>, entry: Entry<'_>) -> Option<Difference> {

@@ -15,11 +15,8 @@ fn write_values<W: fmt::Write, F: Fn(i16) -> i16>(
 ) -> fmt::Result
     requires { F.IsAlwaysCallable bound }
 {
-    for i in 0..values.len() {
-        if let Some(v) = values.get(i) {
-            let v = bound(v);
-            write!(f, " {v}")?;
-        }
+    for v in values.iter().map(bound) {
+        write!(f, " {v}")?;
     }
     Ok(())
 }

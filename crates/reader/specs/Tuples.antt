@@ -3,6 +3,7 @@ use Rattle.std.specs.Prelude.{◌≡◌, ℕ, ◌*◌, ◌<◌, ◌≤◌, List,
 use Rattle.format.specs.Bytes.{pair, signed16}
 use Rattle.reader.specs.declared.table.Table.{Table}
 use Rattle.reader.specs.declared.tuple.Tuple.{Tuple}
+use Rattle.reader.specs.declared.tuple.Values.{Values}
 
 -- the signed words in some bytes
 abbrev pub words_in : List ℕ → List ℤ
@@ -13,6 +14,10 @@ words_in (a ∷ (b ∷ bs)) = signed16 (pair a b) ∷ words_in bs
 -- the values of a tuple
 abbrev pub values_of : Tuple → List ℤ
 values_of t = words_in t.part.now
+
+-- the values that are still to come
+abbrev pub values_left : Values → List ℤ
+values_left v = words_in v.left.now
 
 -- the value with the number i, if there is one
 abbrev pub ValueAt : List ℤ → ℕ → Maybe ℤ → Type 0

@@ -77,16 +77,16 @@ impl<'a> Table<'a> {
             peaks: self.head.peaks,
             p,
         };
-        match within.check_slot(start) {
-            Err(f) => Err(Fault::InSlot(glyph, f)),
-            Ok(rest) => Ok(Slot {
-                table: *self,
-                bytes,
-                p,
-                i: 0,
-                rest,
-            }),
-        }
+        let rest = within
+            .check_slot(start)
+            .map_err(|f| Fault::InSlot(glyph, f))?;
+        Ok(Slot {
+            table: *self,
+            bytes,
+            p,
+            i: 0,
+            rest,
+        })
     }
 }
 
@@ -135,25 +135,21 @@ impl<'a> Iterator for Slot<'a> {
             peaks: self.table.head.peaks,
             p: self.p,
         };
-        match within.entry_at(header, body, self.i, shared) {
-            Err(_) => None,
-            Ok(step) => {
-                let bytes = upto(self.bytes, step.end);
-                let list = list_of(is_private(step.head.index), bytes, body, self.shared_list());
-                self.i += 1;
-                self.rest.header = step.head.past;
-                self.rest.body = step.next;
-                Some(Entry {
-                    table: self.table,
-                    slot: self.bytes,
-                    head: step.head,
-                    bytes,
-                    parts: step.parts,
-                    list,
-                    p: self.p,
-                })
-            }
-        }
+        let step = within.entry_at(header, body, self.i, shared).ok()?;
+        let bytes = upto(self.bytes, step.end);
+        let list = list_of(is_private(step.head.index), bytes, body, self.shared_list());
+        self.i += 1;
+        self.rest.header = step.head.past;
+        self.rest.body = step.next;
+        Some(Entry {
+            table: self.table,
+            slot: self.bytes,
+            head: step.head,
+            bytes,
+            parts: step.parts,
+            list,
+            p: self.p,
+        })
     }
 }
 

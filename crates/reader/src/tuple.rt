@@ -1,7 +1,8 @@
 // The values of a peak, or of a bound of its tents: one for each axis, at their place in the table.
 ghost use Rattle.std.specs.Prelude.{◌≡◌, ◌+◌, ◌*◌, ◌≤◌, length, take, drop};
+ghost use Rattle.std.specs.Iterator.{YieldsFirst, item_count};
 ghost use Rattle.format.specs.Account.{implied_start, implied_end};
-ghost use Rattle.reader.specs.Tuples.{values_of, ValueAt};
+ghost use Rattle.reader.specs.Tuples.{values_of, values_left, ValueAt};
 
 use streams::words::word_at;
 use tents::tent::Bounds;
@@ -11,6 +12,12 @@ use tents::tent::Bounds;
 pub struct Tuple<'a> {
     pub(crate) part: &'a [u8],
     pub(crate) at: usize,
+}
+
+// The values of a tuple that are still to come.
+#[derive(Clone, Copy)]
+pub struct Values<'a> {
+    pub(crate) left: &'a [u8],
 }
 
 // The starts and the ends of an entry's tents.
@@ -58,6 +65,28 @@ impl<'a> Tuple<'a> {
         }
         let word = word_at(self.part, 2 * i)?;
         Some(word.cast_signed())
+    }
+
+    // The values, axis after axis.
+    pub fn iter(&self) -> Values<'a>
+        ensures { values_left result ≡ values_of self.now }
+    {
+        Values { left: self.part }
+    }
+}
+
+impl<'a> Iterator for Values<'a> {
+    type Item = i16;
+
+    ghost next_gives = { YieldsFirst values_left };
+
+    ghost remaining = { item_count values_left };
+
+    // The next value, if one is left.
+    fn next(&mut self) -> Option<i16> {
+        let first = word_at(self.left, 0)?;
+        self.left = &self.left[2..];
+        Some(first.cast_signed())
     }
 }
 

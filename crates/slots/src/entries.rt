@@ -35,21 +35,20 @@ impl<'a> SlotBytes<'a> {
             return Err(SlotFault::NoData(i, header));
         }
         let end = self.table.len() - (have - size);
-        match entry_parts(
+        let parts = entry_parts(
             upto(self.table, end),
             body,
             self.p,
             shared,
             is_private(head.index),
-        ) {
-            Ok(parts) => Ok(Step {
-                head,
-                end,
-                next: body + size,
-                parts,
-            }),
-            Err(f) => Err(SlotFault::InEntry(i, f)),
-        }
+        )
+        .map_err(|f| SlotFault::InEntry(i, f))?;
+        Ok(Step {
+            head,
+            end,
+            next: body + size,
+            parts,
+        })
     }
 
     // The place past the data of `count` entries.

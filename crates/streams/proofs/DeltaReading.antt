@@ -7,8 +7,8 @@ use Rattle.format.specs.Packed.{Kind, zeros, bytes, words}
 use Rattle.format.specs.Streams.{Rest, rest, Read, found, fault, fault_if, and_then, cons_to, read_bytes, read_words, read_values, run_kind, held, delta_run, kind_run, delta_runs, read_deltas}
 use Rattle.streams.specs.declared.fault.StreamFault.TheVariants.{Deltas}
 use Rattle.streams.specs.declared.fault.StreamFault.{StreamFault}
-use Rattle.streams.specs.declared.deltas.DeltaKind.{DeltaKind}
-use Rattle.streams.specs.declared.deltas.DeltaKind.TheVariants.{Zeros, Bytes, Words}
+use Rattle.kinds.specs.declared.delta.DeltaKind.{DeltaKind}
+use Rattle.kinds.specs.declared.delta.DeltaKind.TheVariants.{Zeros, Bytes, Words}
 use Rattle.streams.specs.declared.deltas.DeltaPacking.{DeltaPacking}
 use Rattle.streams.specs.Ahead.{Ahead, ends, give_all, one_more, read_ahead}
 use Rattle.streams.specs.Runs.{value_ahead, run_ahead, begun_ahead, control_ahead, runs_ahead, PastRuns}

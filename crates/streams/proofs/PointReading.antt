@@ -7,7 +7,7 @@ use Rattle.format.specs.Streams.{Rest, rest, Read, found, fault, fault_if, and_t
 use Rattle.streams.specs.declared.fault.StreamFault.{StreamFault}
 use Rattle.streams.specs.declared.fault.StreamFault.TheVariants.{Points}
 use Rattle.streams.specs.declared.runs.Unpacked.{Unpacked}
-use Rattle.streams.specs.declared.points.GapKind.TheVariants.{Bytes, Words}
+use Rattle.kinds.specs.declared.point.PointKind.TheVariants.{Bytes, Words}
 use Rattle.streams.specs.declared.points.PointPacking.{PointPacking}
 use Rattle.streams.specs.Ahead.{Ahead, ends, gives, give_all, fails_if, one_more, read_ahead}
 use Rattle.streams.specs.Runs.{value_ahead, run_ahead, control_ahead, runs_ahead, PastRuns}

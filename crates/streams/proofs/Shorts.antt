@@ -1,7 +1,7 @@
 -- Words that are cut short.
 use Rattle.std.proofs.Common.{◌≡◌, ℕ, ◌+◌, ◌<◌, List, [], ◌∷◌, length, drop, None, refl, arith, length-drop}
-use Rattle.streams.specs.declared.deltas.DeltaKind.TheVariants.{Words}
-use Rattle.streams.specs.declared.points.GapKind.TheVariants.{Words as GapWords}
+use Rattle.kinds.specs.declared.delta.DeltaKind.TheVariants.{Words}
+use Rattle.kinds.specs.declared.point.PointKind.TheVariants.{Words as GapWords}
 use Rattle.streams.specs.declared.deltas.DeltaPacking.{DeltaPacking}
 use Rattle.streams.specs.Deltas.{delta_in}
 use Rattle.streams.specs.Points.{gap_in}

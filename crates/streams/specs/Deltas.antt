@@ -7,8 +7,8 @@ use Rattle.streams.specs.declared.fault.StreamFault.{StreamFault}
 use Rattle.streams.specs.declared.fault.StreamFault.TheVariants.{Deltas}
 use Rattle.streams.specs.declared.runs.RunCursor.{RunCursor}
 use Rattle.streams.specs.declared.runs.Unpacked.{Unpacked}
-use Rattle.streams.specs.declared.deltas.DeltaKind.{DeltaKind}
-use Rattle.streams.specs.declared.deltas.DeltaKind.TheVariants.{Zeros, Bytes, Words}
+use Rattle.kinds.specs.declared.delta.DeltaKind.{DeltaKind}
+use Rattle.kinds.specs.declared.delta.DeltaKind.TheVariants.{Zeros, Bytes, Words}
 use Rattle.streams.specs.declared.deltas.DeltaPacking.{DeltaPacking}
 use Rattle.streams.specs.Faults.{stream_declined}
 use Rattle.streams.specs.Ahead.{Ahead}

@@ -10,8 +10,8 @@ use Rattle.streams.specs.declared.fault.StreamFault.{StreamFault}
 use Rattle.streams.specs.declared.fault.StreamFault.TheVariants.{Points}
 use Rattle.streams.specs.declared.runs.RunCursor.{RunCursor}
 use Rattle.streams.specs.declared.runs.Unpacked.{Unpacked}
-use Rattle.streams.specs.declared.points.GapKind.{GapKind}
-use Rattle.streams.specs.declared.points.GapKind.TheVariants.{Bytes, Words}
+use Rattle.kinds.specs.declared.point.PointKind.{PointKind}
+use Rattle.kinds.specs.declared.point.PointKind.TheVariants.{Bytes, Words}
 use Rattle.streams.specs.declared.points.PointPacking.{PointPacking}
 use Rattle.streams.specs.declared.points.PointCount.{PointCount}
 use Rattle.streams.specs.declared.points.PointSet.{PointSet}
@@ -20,11 +20,11 @@ use Rattle.streams.specs.Ahead.{Ahead}
 use Rattle.streams.specs.Runs.{Form, stream_ahead, ahead, RunStep}
 
 -- the run that a control byte begins, and its gaps after the first
-abbrev pub run_in : ℕ → Maybe (GapKind × ℕ)
+abbrev pub run_in : ℕ → Maybe (PointKind × ℕ)
 run_in c = Some (cond (nat_le 128 c) Words Bytes, c % 128)
 
 -- the gap of a run in front of the bytes, which are those from the place `at` on, and the place past it
-abbrev pub gap_in : GapKind → List ℕ → ℕ → Maybe (ℕ × ℕ)
+abbrev pub gap_in : PointKind → List ℕ → ℕ → Maybe (ℕ × ℕ)
 gap_in Bytes [] at = None
 gap_in Bytes (b ∷ bs) at = Some (b, at + 1)
 gap_in Words [] at = None
@@ -43,11 +43,11 @@ point_at s (Some g) =
     cond (rises s.low s.p (q ∷ [])) (Some (record { value = q; past = g.1; packing = from_point s.p q })) None
 
 -- how points are packed
-abbrev pub point_form : Form PointPacking GapKind ℕ
+abbrev pub point_form : Form PointPacking PointKind ℕ
 point_form = record { begins = run_in; blames = λ at. Points at; unpacks = λ s k bs at. point_at s (gap_in k (drop at bs) at) }
 
 abbrev pub PointCursor : Type 0
-PointCursor = RunCursor PointPacking GapKind
+PointCursor = RunCursor PointPacking PointKind
 
 -- a stream of k points below p
 abbrev pub points_from : ℕ → List ℕ → ℕ → ℕ → Ahead ℕ

@@ -8,14 +8,7 @@ ghost use Rattle.streams.specs.Deltas.{delta_form, deltas_from, deltas_ahead, Pa
 use crate::fault::StreamFault;
 use crate::runs::{Packing, RunCursor, Unpacked};
 use crate::words::word_at;
-
-// What the values of a run are.
-#[derive(Clone, Copy)]
-pub enum DeltaKind {
-    Zeros,
-    Bytes,
-    Words,
-}
+use kinds::delta::DeltaKind;
 
 // Each delta stands for itself.
 #[derive(Clone, Copy)]

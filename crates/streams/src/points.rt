@@ -8,13 +8,7 @@ ghost use Rattle.streams.specs.Points.{count_in, after_count, gap_in, point_form
 use crate::fault::StreamFault;
 use crate::runs::{Packing, RunCursor, Unpacked};
 use crate::words::word_at;
-
-// What the gaps of a run are.
-#[derive(Clone, Copy)]
-pub enum GapKind {
-    Bytes,
-    Words,
-}
+use kinds::point::PointKind;
 
 // Each point is a gap from the last one: the last one, and the least that may follow. All are below p.
 #[derive(Clone, Copy)]
@@ -24,7 +18,7 @@ pub struct PointPacking {
     pub(crate) low: u16,
 }
 
-pub type PointCursor<'a> = RunCursor<'a, PointPacking, GapKind>;
+pub type PointCursor<'a> = RunCursor<'a, PointPacking, PointKind>;
 
 // How many points are listed, 0 for every point, and the place past that count.
 #[derive(Clone, Copy, PartialEq, Eq, Debug)]
@@ -68,27 +62,27 @@ pub fn read_count(table: &[u8], at: usize) -> Result<PointCount, StreamFault>
 }
 
 // The gap of a run at the place `at`, and the place past it, if its bytes are there.
-fn gap_at(table: &[u8], at: usize, kind: GapKind) -> Option<(u16, usize)>
+fn gap_at(table: &[u8], at: usize, kind: PointKind) -> Option<(u16, usize)>
     ensures { result ≡ gap_in kind (drop at table.now) at }
 {
     match kind {
-        GapKind::Bytes => Some((*table.get(at)? as u16, at + 1)),
-        GapKind::Words => Some((word_at(table, at)?, at + 2)),
+        PointKind::Bytes => Some((*table.get(at)? as u16, at + 1)),
+        PointKind::Words => Some((word_at(table, at)?, at + 2)),
     }
 }
 
 impl Packing for PointPacking {
-    type Kind = GapKind;
+    type Kind = PointKind;
 
     type Value = u16;
 
     ghost form = { point_form };
 
-    fn begin(control: u8) -> Option<(GapKind, u8)> {
+    fn begin(control: u8) -> Option<(PointKind, u8)> {
         let kind = if control < 128 {
-            GapKind::Bytes
+            PointKind::Bytes
         } else {
-            GapKind::Words
+            PointKind::Words
         };
         Some((kind, control % 128))
     }
@@ -97,7 +91,7 @@ impl Packing for PointPacking {
         StreamFault::Points(at)
     }
 
-    fn unpack(self, kind: GapKind, table: &[u8], at: usize) -> Option<Unpacked<u16, PointPacking>> {
+    fn unpack(self, kind: PointKind, table: &[u8], at: usize) -> Option<Unpacked<u16, PointPacking>> {
         let (gap, past) = gap_at(table, at, kind)?;
         let point = self.from.checked_add(gap)?;
         if point < self.low || point >= self.p {
@@ -115,7 +109,7 @@ impl Packing for PointPacking {
     }
 }
 
-impl<'a> RunCursor<'a, PointPacking, GapKind> {
+impl<'a> RunCursor<'a, PointPacking, PointKind> {
     // Over `count` points below p, from the place `at` of the table on.
     pub fn new(table: &'a [u8], at: usize, p: u16, count: u16) -> PointCursor<'a>
         ensures table { result.table.now ≡ table.now }

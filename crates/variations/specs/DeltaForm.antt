@@ -2,8 +2,8 @@
 use Rattle.std.specs.Prelude.{ℕ, Bool, true, false, cond, ◌&&◌, map, ℤ, pos, negsuc, Some, None, Option, int_le}
 use Rattle.format.specs.Packed.{Kind, zeros, bytes, words, Run, value_bytes, packed_deltas}
 use Rattle.format.specs.Packed.{cut as format_cut}
-use Rattle.variations.specs.declared.delta_kinds.DeltaKind.{DeltaKind}
-use Rattle.variations.specs.declared.delta_kinds.DeltaKind.TheVariants.{Zeros, Bytes, Words}
+use Rattle.kinds.specs.declared.delta.DeltaKind.{DeltaKind}
+use Rattle.kinds.specs.declared.delta.DeltaKind.TheVariants.{Zeros, Bytes, Words}
 use Rattle.variations.specs.Forms.{Cut, Form}
 
 abbrev pub meant : DeltaKind → Kind

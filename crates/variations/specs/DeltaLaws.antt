@@ -6,8 +6,8 @@ use Rattle.std.proofs.lemmas.Bool.Decides.{nat_tests}
 use Rattle.format.specs.Bytes.{joined}
 use Rattle.format.specs.Packed.{Kind, zeros, bytes, words, kind, is_zero, is_word, starts_with, extent, Run}
 use Rattle.format.specs.Packed.{stops as format_stops, cut_at_most as format_cut_at_most, run_bytes as format_run_bytes, cut as format_cut}
-use Rattle.variations.specs.declared.delta_kinds.DeltaKind.{DeltaKind}
-use Rattle.variations.specs.declared.delta_kinds.DeltaKind.TheVariants.{Zeros, Bytes, Words}
+use Rattle.kinds.specs.declared.delta.DeltaKind.{DeltaKind}
+use Rattle.kinds.specs.declared.delta.DeltaKind.TheVariants.{Zeros, Bytes, Words}
 use Rattle.variations.specs.Forms.{Cut, Lawful, first_kind, reach, cut_at_most, run_bytes}
 use Rattle.variations.specs.DeltaForm.{meant, kind_for, is_zero_value, is_byte_value, kind_of, holds, zeros_follow, short_follows, stops, flag, width, cut_of, delta_form}
 

@@ -1,8 +1,8 @@
 -- How gaps are held in runs: the form of packed points, over the program's kinds.
 use Rattle.std.specs.Prelude.{ℕ, Bool, true, false, map, Option}
 use Rattle.format.specs.Packed.{is_wide, same_class, GapRun, gap_bytes}
-use Rattle.variations.specs.declared.gap_kinds.PointKind.{PointKind}
-use Rattle.variations.specs.declared.gap_kinds.PointKind.TheVariants.{Bytes, Words}
+use Rattle.kinds.specs.declared.point.PointKind.{PointKind}
+use Rattle.kinds.specs.declared.point.PointKind.TheVariants.{Bytes, Words}
 use Rattle.variations.specs.Forms.{Cut, Form}
 use Rattle.variations.specs.Gaps.{cut_gaps, gap_runs_bytes}
 

@@ -3,8 +3,8 @@ use Rattle.std.proofs.Common.{◌≡◌, ℕ, zero, suc, ◌+◌, ◌≤◌, Boo
 use Rattle.std.proofs.lemmas.Bool.{true≢false}
 use Rattle.format.specs.Bytes.{joined}
 use Rattle.format.specs.Packed.{is_wide, same_class, class_extent, GapRun, cut_gaps_at_most, gap_run_bytes}
-use Rattle.variations.specs.declared.gap_kinds.PointKind.{PointKind}
-use Rattle.variations.specs.declared.gap_kinds.PointKind.TheVariants.{Bytes, Words}
+use Rattle.kinds.specs.declared.point.PointKind.{PointKind}
+use Rattle.kinds.specs.declared.point.PointKind.TheVariants.{Bytes, Words}
 use Rattle.variations.specs.Forms.{Cut, Lawful, first_kind, reach, cut_at_most, run_bytes}
 use Rattle.variations.specs.Gaps.{cut_gaps}
 use Rattle.variations.specs.GapForm.{meant, kind_for, stops, flag, width, cut_of, gap_form}

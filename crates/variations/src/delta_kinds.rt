@@ -3,16 +3,9 @@ ghost use Rattle.std.specs.Prelude.{◌≡◌};
 ghost use Rattle.variations.specs.DeltaForm.{stops, delta_form};
 ghost use Rattle.variations.specs.DeltaLaws.{delta_lawful};
 
-use crate::kinds::RunKind;
+use crate::run_kind::RunKind;
+use kinds::delta::DeltaKind;
 use write::sink::{Sink, SinkError};
-
-// How the values of a run are held: not at all, in a byte each, in a word each.
-#[derive(Clone, Copy, PartialEq, Eq, Debug)]
-pub enum DeltaKind {
-    Zeros,
-    Bytes,
-    Words,
-}
 
 impl RunKind for DeltaKind {
     type Value = i16;

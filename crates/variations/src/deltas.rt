@@ -4,8 +4,8 @@ ghost use Rattle.format.specs.Packed.{packed_deltas};
 ghost use Rattle.variations.specs.Deltas.{values_from};
 
 use crate::delta::{Coordinate, GlyphDelta, next_stored};
-use crate::delta_kinds::DeltaKind;
 use crate::runs::{Packed, Run, Runs, Step};
+use kinds::delta::DeltaKind;
 use write::batch::Batch;
 use write::piece::FontWrite;
 use write::sink::{Sink, SinkError};

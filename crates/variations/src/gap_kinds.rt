@@ -3,15 +3,9 @@ ghost use Rattle.std.specs.Prelude.{◌≡◌};
 ghost use Rattle.variations.specs.GapForm.{stops, gap_form};
 ghost use Rattle.variations.specs.GapLaws.{gap_lawful};
 
-use crate::kinds::RunKind;
+use crate::run_kind::RunKind;
+use kinds::point::PointKind;
 use write::sink::{Sink, SinkError};
-
-// How the gaps of a run are held: in a byte each, in a word each.
-#[derive(Clone, Copy, PartialEq, Eq, Debug)]
-pub enum PointKind {
-    Bytes,
-    Words,
-}
 
 impl RunKind for PointKind {
     type Value = usize;

@@ -3,8 +3,8 @@ ghost use Rattle.std.specs.Prelude.{◌≡◌, length};
 ghost use Rattle.variations.specs.Gaps.{gaps_from};
 
 use crate::delta::{GlyphDelta, next_stored};
-use crate::gap_kinds::PointKind;
 use crate::runs::{Packed, Run, Runs, Step};
+use kinds::point::PointKind;
 
 // The points whose deltas are required, as the gaps between them.
 #[derive(Clone, Copy)]

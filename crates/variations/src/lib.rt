@@ -6,7 +6,7 @@ pub mod delta_kinds;
 pub mod deltas;
 pub mod gap_kinds;
 pub mod gaps;
-pub mod kinds;
 pub mod packing;
 pub mod points;
+pub mod run_kind;
 pub mod runs;

@@ -5,7 +5,7 @@ ghost use Rattle.write.specs.Sinks.{Fed};
 ghost use Rattle.variations.specs.Forms.{run_bytes};
 ghost use Rattle.variations.specs.Runs.{RunAt, run_of};
 
-use crate::kinds::RunKind;
+use crate::run_kind::RunKind;
 use crate::runs::{Packed, Run, Runs};
 use write::batch::Batch;
 use write::sink::{Sink, SinkError};

@@ -4,7 +4,7 @@ ghost use Rattle.std.specs.Iterator.{at_most};
 ghost use Rattle.variations.specs.Forms.{kind_ahead, reach};
 ghost use Rattle.variations.specs.Runs.{Stepped, NextRun, place_after};
 
-use crate::kinds::RunKind;
+use crate::run_kind::RunKind;
 
 // A value, and the place after it.
 #[derive(Clone, Copy)]

@@ -1,10 +1,11 @@
 use Rattle.std.proofs.Common.{◌<◌, length, arith, below_more, rules, tests}
 use Rattle.std.proofs.lemmas.Result.{err_from_is_err_and}
 use Rattle.format.specs.Answers.{SizesFit}
+use Rattle.format.proofs.Mapped.{ok_told, err_told}
 use Rattle.stores.specs.Sizes.{StoreSized}
 use Rattle.parts.specs.OfParts.{parts_glyphs}
 use Rattle.parts.specs.OfStore.{store_peaks, store_variations}
-use Rattle.gvar.proofs.Answering.{ok_told, err_told, measured_fits, measured_refuses}
+use Rattle.gvar.proofs.Answering.{measured_fits, measured_refuses}
 use Rattle.gvar.proofs.compile.fit_sizes.Goals as goal
 
 pub returns-in_err-map_err : goal.returns-in_err-map_err

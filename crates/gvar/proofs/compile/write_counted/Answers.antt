@@ -2,12 +2,12 @@ use Rattle.std.proofs.Common.{◌≡◌, ◌<◌, length, refl, Result, MatchRes
 use Rattle.std.proofs.lemmas.Result.{err_from_is_err_and}
 use Rattle.format.specs.Table.{even_total, glyphs_bytes, table_bytes}
 use Rattle.format.specs.Answers.{long_glyphs, long_table}
+use Rattle.format.proofs.Mapped.{ok_told, err_told}
 use Rattle.sets.specs.declared.refusal.Refusal.TheVariants.{GlyphsTooLarge}
 use Rattle.tables.specs.declared.layout.Layout.{Layout}
 use Rattle.tables.specs.declared.layout.TooLarge.{TooLarge}
 use Rattle.tables.specs.Layouts.{Laid}
 use Rattle.parts.specs.OfParts.{parts_axes, parts_glyphs}
-use Rattle.gvar.proofs.Answering.{ok_told, err_told}
 use Rattle.gvar.proofs.compile.write_counted.Goals as goal
 
 pub returns-in_err-layout : goal.returns-in_err-layout

@@ -1,5 +1,7 @@
-use Rattle.std.proofs.Common.{◌+◌, Bool, [], take, drop, Option as Maybe, sym, refl, ◌∙◌, subst, arith}
+use Rattle.std.proofs.Common.{◌≡◌, ◌+◌, Bool, [], take, drop, None, Option as Maybe, sym, refl, ◌∙◌, subst, arith, rules, tests}
 use Rattle.format.specs.Reader.{checked, is_private, read_entries, entry_of, header_of}
+use Rattle.format.proofs.Mapped.{some_told, none_told}
+use Rattle.slots.specs.Walks.{EntryAt}
 use Rattle.slots.proofs.HeadSteps.{not_both, un_one}
 use Rattle.slots.proofs.WalkSteps.{good_entry, moved}
 use Rattle.reader.specs.declared.points.PointList.{PointList}
@@ -7,22 +9,24 @@ use Rattle.reader.specs.SlotWalks.{shared_list, ListOf}
 use Rattle.reader.proofs.SlotWalkSteps.{peaks_next, list_read}
 use Rattle.reader.proofs.slot.SlotIterator.next.Goals as goal
 
-pub returns-in-Err-clause-steps : goal.returns-in-Err-clause-steps
-returns-in-Err-clause-steps c =
+pub returns-in_err-step-clause-steps : goal.returns-in_err-step-clause-steps
+returns-in_err-step-clause-steps c =
     let s = c.args.self.now in
-    record {
+    let n : c.from_residual.result ≡ None = search (rules, tests) in
+    let f = none_told (EntryAt s.bytes.now s.rest.header s.rest.body s.i s.table.head.axes s.p s.rest.shared) c.entry_at.result c.ok.result c.ok.ensures.value c.in_err-step.was c.entry_at.ensures in
+    rw n (record {
       walked = λ es w.
           absurd (not_both (read_entries (checked s.table.bytes.now) w.glyph s.p w.set s.i w.headers (drop s.rest.body s.bytes.now) s.rest.body) _ _
-          (c.in-Err.ensures (checked s.table.bytes.now) w.glyph w.set s.rest.count w.headers w.left w.past w.number (omega arith) w.heads_read) w.entries_read);
+          (f.1 (checked s.table.bytes.now) w.glyph w.set s.rest.count w.headers w.left w.past w.number (omega arith) w.heads_read) w.entries_read);
       falls = tt;
-    }
+    })
 
-pub returns-in-Ok-clause-steps : goal.returns-in-Ok-clause-steps
-returns-in-Ok-clause-steps c =
+pub returns-clause-steps : goal.returns-clause-steps
+returns-clause-steps c =
     let s = c.args.self.now in
     let k = checked s.table.bytes.now in
-    let y = c.in-Ok.ensures in
-    let q = c.in-Ok.step in
+    let y = some_told (EntryAt s.bytes.now s.rest.header s.rest.body s.i s.table.head.axes s.p s.rest.shared) c.entry_at.result c.ok.result c.ok.ensures.value _ c.in_ok-step.was c.entry_at.ensures in
+    let q = c.in_ok-step.step in
     record {
       walked = λ es w.
           let g = w.glyph in

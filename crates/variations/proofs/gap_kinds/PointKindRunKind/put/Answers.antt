@@ -3,7 +3,7 @@ use Rattle.std.proofs.lemmas.Bool.{not-true, ltb-false}
 use Rattle.format.specs.Bytes.{word}
 use Rattle.format.specs.Packed.{is_wide, same_class}
 use Rattle.write.proofs.Feeding.{fed_whole}
-use Rattle.variations.specs.declared.gap_kinds.PointKind.TheVariants.{Bytes}
+use Rattle.kinds.specs.declared.point.PointKind.TheVariants.{Bytes}
 use Rattle.variations.specs.GapForm.{meant}
 use Rattle.variations.proofs.gap_kinds.PointKindRunKind.put.Goals as goal
 
