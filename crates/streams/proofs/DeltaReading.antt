@@ -1,9 +1,9 @@
 -- A cursor over deltas has ahead what the format reads.
-use Rattle.std.proofs.Common.{◌≡◌, ℕ, zero, suc, ◌+◌, ◌-◌, ◌*◌, ◌%◌, Bool, true, false, cond, ltb, leb, List, [], ◌∷◌, ◌++◌, drop, replicate, ℤ, pos, Some, None, Ok, Err, Result, sym, refl, ap, ◌∙◌, subst, add-zero, arith}
+use Rattle.std.proofs.Common.{◌≡◌, ℕ, zero, suc, ◌+◌, ◌-◌, ◌*◌, ◌%◌, Bool, true, false, cond, ltb, leb, List, [], ◌∷◌, ◌++◌, drop, replicate, ℤ, pos, Some, Ok, Err, Result, sym, refl, ap, ◌∙◌, subst, add-zero, arith}
 use mathlib.Core.Option.{Option, none, some}
 use Rattle.format.specs.Account.{Declined}
 use Rattle.format.specs.Bytes.{pair, signed8, signed16}
-use Rattle.format.specs.Packed.{Kind, zeros, bytes, words}
+use Rattle.format.specs.Packed.{zeros, bytes, words}
 use Rattle.format.specs.Streams.{Rest, rest, Read, found, fault, fault_if, and_then, cons_to, read_bytes, read_words, read_values, run_kind, held, delta_run, kind_run, delta_runs, read_deltas}
 use Rattle.streams.specs.declared.fault.StreamFault.TheVariants.{Deltas}
 use Rattle.streams.specs.declared.fault.StreamFault.{StreamFault}
@@ -12,16 +12,10 @@ use Rattle.kinds.specs.declared.delta.DeltaKind.TheVariants.{Zeros, Bytes, Words
 use Rattle.streams.specs.declared.deltas.DeltaPacking.{DeltaPacking}
 use Rattle.streams.specs.Ahead.{Ahead, ends, give_all, one_more, read_ahead}
 use Rattle.streams.specs.Runs.{value_ahead, run_ahead, begun_ahead, control_ahead, runs_ahead, PastRuns}
-use Rattle.streams.specs.Deltas.{run_in, delta_in, delta_form, deltas_from, DeltaCursor, deltas_ahead, PastDeltas}
+use Rattle.streams.specs.Deltas.{kind_of, run_in, delta_in, delta_form, deltas_from, DeltaCursor, deltas_ahead, PastDeltas}
 use Rattle.streams.proofs.Steps.{Exactly, exact_length}
 use Rattle.streams.proofs.Readings.{read_all, read_none, read_if, push, whole, after_byte, after_word}
 use Rattle.streams.proofs.RunSteps.{exact_stream}
-
--- the format's kind of a run, from the code's
-abbrev kind_of : DeltaKind → Kind
-kind_of Zeros = zeros
-kind_of Bytes = bytes
-kind_of Words = words
 
 module _ (d : ℕ → ℕ → Declined) (bs : List ℕ) where
   -- the values of a run with its control at `control`, and what is read from the place past it
@@ -40,14 +34,14 @@ module _ (d : ℕ → ℕ → Declined) (bs : List ℕ) where
 
     run_zeros : (q : DeltaPacking) (n at : ℕ) → read_ahead d bs (run_ahead delta_form bs Zeros control n q at more) ≡ from_run control (read_values zeros n (drop at bs)) follow at
     run_zeros q zero at = h q at ∙ sym (whole (follow (drop at bs) at))
-    run_zeros q (suc n) at = ap (one_more (pos 0)) (run_zeros q n at) ∙ sym (push (pos 0) (replicate n (pos 0)) (follow (drop at bs) at))
+    run_zeros q (suc n) at = rw (add-zero at) (ap (one_more (pos 0)) (run_zeros q n at)) ∙ sym (push (pos 0) (replicate n (pos 0)) (follow (drop at bs) at))
 
     run_bytes : (q : DeltaPacking) (n at : ℕ) → read_ahead d bs (run_ahead delta_form bs Bytes control n q at more) ≡ from_run control (read_bytes signed8 n (drop at bs)) follow (at + n)
     run_bytes q zero at = rw add-zero (h q at ∙ sym (whole (follow (drop at bs) at)))
     run_bytes q (suc n) at = by (drop at bs) refl (run_bytes q n (at + 1))
       where
         by : (l : List ℕ) → drop at bs ≡ l → read_ahead d bs (run_ahead delta_form bs Bytes control n q (at + 1) more) ≡ from_run control (read_bytes signed8 n (drop (at + 1) bs)) follow (at + 1 + n) →
-            read_ahead d bs (value_ahead delta_form bs control (delta_in q Bytes l at) (λ q past. run_ahead delta_form bs Bytes control n q past more)) ≡ from_run control (read_bytes signed8 (suc n) l) follow (at + suc n)
+            read_ahead d bs (value_ahead delta_form bs control (delta_in q (at + 1) (read_values bytes 1 l)) (λ q past. run_ahead delta_form bs Bytes control n q past more)) ≡ from_run control (read_bytes signed8 (suc n) l) follow (at + suc n)
         by [] e i = refl
         by (b ∷ r) e i =
             let f : at + suc n ≡ at + 1 + n = omega arith in
@@ -58,7 +52,7 @@ module _ (d : ℕ → ℕ → Declined) (bs : List ℕ) where
     run_words q (suc n) at = by (drop at bs) refl (run_words q n (at + 2))
       where
         by : (l : List ℕ) → drop at bs ≡ l → read_ahead d bs (run_ahead delta_form bs Words control n q (at + 2) more) ≡ from_run control (read_words signed16 n (drop (at + 2) bs)) follow (at + 2 + 2 * n) →
-            read_ahead d bs (value_ahead delta_form bs control (delta_in q Words l at) (λ q past. run_ahead delta_form bs Words control n q past more)) ≡ from_run control (read_words signed16 (suc n) l) follow (at + 2 * suc n)
+            read_ahead d bs (value_ahead delta_form bs control (delta_in q (at + 2) (read_values words 1 l)) (λ q past. run_ahead delta_form bs Words control n q past more)) ≡ from_run control (read_words signed16 (suc n) l) follow (at + 2 * suc n)
         by [] e i = refl
         by (b ∷ []) e i = refl
         by (b ∷ (b' ∷ r)) e i =
@@ -88,10 +82,10 @@ module _ (d : ℕ → ℕ → Declined) (bs : List ℕ) where
         by true = refl
         by false = refl
 
-    begun_read : read_ahead d bs (begun_ahead delta_form bs (run_in c) at k q more) ≡ fault_if (ltb k (suc (c % 64))) (d 23 at) (kind_run d at (suc (c % 64)) (drop (at + 1) bs) (run_kind c) follow)
+    begun_read : read_ahead d bs (begun_ahead delta_form bs (run_in (c % 64) (run_kind c)) at k q more) ≡ fault_if (ltb k (suc (c % 64))) (d 23 at) (kind_run d at (suc (c % 64)) (drop (at + 1) bs) (run_kind c) follow)
     begun_read = by (leb 192 c) (leb 128 c) (leb 64 c)
       where
-        by : (x y z : Bool) → read_ahead d bs (begun_ahead delta_form bs (cond x None (Some (cond y Zeros (cond z Words Bytes), c % 64))) at k q more)
+        by : (x y z : Bool) → read_ahead d bs (begun_ahead delta_form bs (run_in (c % 64) (cond x none (some (cond y zeros (cond z words bytes))))) at k q more)
             ≡ fault_if (ltb k (suc (c % 64))) (d 23 at) (kind_run d at (suc (c % 64)) (drop (at + 1) bs) (cond x none (some (cond y zeros (cond z words bytes)))) follow)
         by true y z = none_read
         by false true z = some_read Zeros

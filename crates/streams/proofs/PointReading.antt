@@ -11,7 +11,7 @@ use Rattle.kinds.specs.declared.point.PointKind.TheVariants.{Bytes, Words}
 use Rattle.streams.specs.declared.points.PointPacking.{PointPacking}
 use Rattle.streams.specs.Ahead.{Ahead, ends, gives, give_all, fails_if, one_more, read_ahead}
 use Rattle.streams.specs.Runs.{value_ahead, run_ahead, control_ahead, runs_ahead, PastRuns}
-use Rattle.streams.specs.Points.{gap_in, point_at, point_form, points_from, PointCursor, points_ahead, PastPointRuns}
+use Rattle.streams.specs.Points.{gaps_held, gap_in, point_at, point_form, points_from, PointCursor, points_ahead, PastPointRuns}
 use Rattle.streams.proofs.Steps.{Exactly, exact_length}
 use Rattle.streams.proofs.Readings.{read_all, read_none, read_if, push, whole, after_byte, after_word}
 use Rattle.streams.proofs.RunSteps.{exact_stream}
@@ -24,10 +24,6 @@ next_low low (q ∷ qs) = suc (last_of q qs)
 low_after : (q : ℕ) (qs : List ℕ) → next_low (suc q) qs ≡ suc (last_of q qs)
 low_after q [] = refl
 low_after q (r ∷ qs) = refl
-
--- the bytes of n gaps
-abbrev gaps_held : Bool → ℕ → ℕ
-gaps_held wide n = cond wide (2 * n) n
 
 -- a value that is given where the test passes
 value_if : (bs : List ℕ) (b : Bool) (control : ℕ) (u : Unpacked ℕ PointPacking) (more : PointPacking → ℕ → Ahead ℕ) →

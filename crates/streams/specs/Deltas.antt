@@ -1,8 +1,9 @@
 -- What is ahead of a cursor over packed deltas.
-use Rattle.std.specs.Prelude.{◌≡◌, ℕ, ◌+◌, ◌%◌, cond, List, [], ◌∷◌, length, drop, ℤ, pos, Some, None, Ok, Err, Option as Maybe, Result, nat_le}
+use Rattle.std.specs.Prelude.{◌≡◌, ℕ, ◌+◌, ◌%◌, List, [], ◌∷◌, length, drop, ℤ, Some, None, Ok, Err, Option as Maybe, Result}
+use Rattle.std.proofs.Math.Option.{Option, none, some}
 use Rattle.format.specs.Account.{Declined}
-use Rattle.format.specs.Bytes.{pair, signed8, signed16}
-use Rattle.format.specs.Streams.{rest, found, fault, read_deltas}
+use Rattle.format.specs.Packed.{Kind, zeros, bytes, words}
+use Rattle.format.specs.Streams.{rest, found, fault, read_values, run_kind, held, read_deltas}
 use Rattle.streams.specs.declared.fault.StreamFault.{StreamFault}
 use Rattle.streams.specs.declared.fault.StreamFault.TheVariants.{Deltas}
 use Rattle.streams.specs.declared.runs.RunCursor.{RunCursor}
@@ -14,26 +15,40 @@ use Rattle.streams.specs.Faults.{stream_declined}
 use Rattle.streams.specs.Ahead.{Ahead}
 use Rattle.streams.specs.Runs.{Form, stream_ahead, ahead, RunStep}
 
--- the run that a control byte begins, and its values after the first; none where both bits are set
-abbrev pub run_in : ℕ → Maybe (DeltaKind × ℕ)
-run_in c = cond (nat_le 192 c) None (Some (cond (nat_le 128 c) Zeros (cond (nat_le 64 c) Words Bytes), c % 64))
+-- the format's kind of a run, by the cursor's, and the cursor's by the format's
+abbrev pub kind_of : DeltaKind → Kind
+kind_of Zeros = zeros
+kind_of Bytes = bytes
+kind_of Words = words
 
--- a delta, and the place past it
-abbrev pub delta : DeltaPacking → ℤ → ℕ → Maybe (Unpacked ℤ DeltaPacking)
-delta q v past = Some (record { value = v; past = past; packing = q })
+abbrev pub kept_as : Kind → DeltaKind
+kept_as zeros = Zeros
+kept_as bytes = Bytes
+kept_as words = Words
 
--- the delta of a run in front of the bytes, which are those from the place `at` on
-abbrev pub delta_in : DeltaPacking → DeltaKind → List ℕ → ℕ → Maybe (Unpacked ℤ DeltaPacking)
-delta_in q Zeros bs at = delta q (pos 0) at
-delta_in q Bytes [] at = None
-delta_in q Bytes (b ∷ bs) at = delta q (signed8 b) (at + 1)
-delta_in q Words [] at = None
-delta_in q Words (a ∷ []) at = None
-delta_in q Words (a ∷ (b ∷ bs)) at = delta q (signed16 (pair a b)) (at + 2)
+-- the run of a kind, if there is one, with n values after its first
+abbrev pub run_in : ℕ → Option Kind → Maybe (DeltaKind × ℕ)
+run_in n none = None
+run_in n (some k) = Some (kept_as k, n)
 
--- how deltas are packed
+-- the first of the values
+abbrev pub first_delta : DeltaPacking → ℕ → List ℤ → Maybe (Unpacked ℤ DeltaPacking)
+first_delta q past [] = None
+first_delta q past (v ∷ vs) = Some (record { value = v; past = past; packing = q })
+
+-- the value that was read, if its bytes are there
+abbrev pub delta_in : DeltaPacking → ℕ → Option (List ℤ × List ℕ) → Maybe (Unpacked ℤ DeltaPacking)
+delta_in q past none = None
+delta_in q past (some r) = first_delta q past r.0
+
+-- how deltas are packed: the format says the kind that a control begins, and reads a value as a run of one
 abbrev pub delta_form : Form DeltaPacking DeltaKind ℤ
-delta_form = record { begins = run_in; blames = λ at. Deltas at; unpacks = λ q k bs at. delta_in q k (drop at bs) at }
+delta_form =
+    record {
+      begins = λ c. run_in (c % 64) (run_kind c);
+      blames = λ at. Deltas at;
+      unpacks = λ q k bs at. delta_in q (at + held (kind_of k) 1) (read_values (kind_of k) 1 (drop at bs));
+    }
 
 abbrev pub DeltaCursor : Type 0
 DeltaCursor = RunCursor DeltaPacking DeltaKind

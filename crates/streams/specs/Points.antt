@@ -1,10 +1,11 @@
 -- What is ahead of a cursor over packed points.
-use Rattle.std.specs.Prelude.{◌≡◌, ℕ, zero, suc, ◌+◌, ◌-◌, ◌%◌, cond, List, [], ◌∷◌, length, drop, Some, None, Ok, Err, Option as Maybe, Result, ◌==◌, nat_le, nat_lt}
+use Rattle.std.specs.Prelude.{◌≡◌, ℕ, zero, suc, ◌+◌, ◌-◌, ◌*◌, ◌%◌, Bool, true, false, cond, List, [], ◌∷◌, length, drop, Some, None, Ok, Err, Option as Maybe, Result, ◌==◌, nat_le, nat_lt}
+use Rattle.std.proofs.Math.Option.{Option, none, some}
 use Rattle.format.specs.Account.{Declined}
 use Rattle.format.specs.Bytes.{pair}
 use Rattle.format.specs.Packed.{every}
 use Rattle.format.specs.Packed.{Points as PointSetRead}
-use Rattle.format.specs.Streams.{Rest, rest, Read, found, fault, rises, point_runs, counted_points, read_points}
+use Rattle.format.specs.Streams.{Rest, rest, Read, found, fault, read_gaps, points_after, rises, point_runs, counted_points, read_points}
 use Rattle.format.specs.Reader.{points_of}
 use Rattle.streams.specs.declared.fault.StreamFault.{StreamFault}
 use Rattle.streams.specs.declared.fault.StreamFault.TheVariants.{Points}
@@ -19,32 +20,49 @@ use Rattle.streams.specs.Faults.{stream_declined}
 use Rattle.streams.specs.Ahead.{Ahead}
 use Rattle.streams.specs.Runs.{Form, stream_ahead, ahead, RunStep}
 
--- the run that a control byte begins, and its gaps after the first
-abbrev pub run_in : ℕ → Maybe (PointKind × ℕ)
-run_in c = Some (cond (nat_le 128 c) Words Bytes, c % 128)
+-- do the gaps of a run take two bytes each?
+abbrev pub is_wide : PointKind → Bool
+is_wide Bytes = false
+is_wide Words = true
 
--- the gap of a run in front of the bytes, which are those from the place `at` on, and the place past it
+-- the bytes of n gaps
+abbrev pub gaps_held : Bool → ℕ → ℕ
+gaps_held wide n = cond wide (2 * n) n
+
+-- the first of the gaps, and the place past it
+abbrev pub first_gap : ℕ → List ℕ → Maybe (ℕ × ℕ)
+first_gap past [] = None
+first_gap past (g ∷ gs) = Some (g, past)
+
+-- the gap that was read, if its bytes are there
+abbrev pub gap_of : ℕ → Option (List ℕ × List ℕ) → Maybe (ℕ × ℕ)
+gap_of past none = None
+gap_of past (some r) = first_gap past r.0
+
+-- the gap in front of the bytes, which are those from the place `at` on: the format reads it as a run of one
 abbrev pub gap_in : PointKind → List ℕ → ℕ → Maybe (ℕ × ℕ)
-gap_in Bytes [] at = None
-gap_in Bytes (b ∷ bs) at = Some (b, at + 1)
-gap_in Words [] at = None
-gap_in Words (a ∷ []) at = None
-gap_in Words (a ∷ (b ∷ bs)) at = Some (pair a b, at + 2)
+gap_in k bs at = gap_of (at + gaps_held (is_wide k) 1) (read_gaps (is_wide k) 1 bs)
 
--- the last point is q, and those after it are above it
-abbrev pub from_point : ℕ → ℕ → PointPacking
-from_point p q = record { p = p; from = q; low = suc q }
+-- the first of the points: those after it are above it
+abbrev pub first_point : PointPacking → ℕ → List ℕ → Maybe (Unpacked ℕ PointPacking)
+first_point s past [] = None
+first_point s past (q ∷ qs) = Some (record { value = q; past = past; packing = record { p = s.p; from = q; low = suc q } })
 
 -- the point at a gap from the last one, if it rises and is below p
 abbrev pub point_at : PointPacking → Maybe (ℕ × ℕ) → Maybe (Unpacked ℕ PointPacking)
 point_at s None = None
 point_at s (Some g) =
-    let q = s.from + g.0 in
-    cond (rises s.low s.p (q ∷ [])) (Some (record { value = q; past = g.1; packing = from_point s.p q })) None
+    let qs = points_after s.from (g.0 ∷ []) in
+    cond (rises s.low s.p qs) (first_point s g.1 qs) None
 
--- how points are packed
+-- how points are packed: the high bit of a control says how wide the gaps of its run are
 abbrev pub point_form : Form PointPacking PointKind ℕ
-point_form = record { begins = run_in; blames = λ at. Points at; unpacks = λ s k bs at. point_at s (gap_in k (drop at bs) at) }
+point_form =
+    record {
+      begins = λ c. Some (cond (nat_le 128 c) Words Bytes, c % 128);
+      blames = λ at. Points at;
+      unpacks = λ s k bs at. point_at s (gap_in k (drop at bs) at);
+    }
 
 abbrev pub PointCursor : Type 0
 PointCursor = RunCursor PointPacking PointKind

@@ -91,7 +91,12 @@ impl Packing for PointPacking {
         StreamFault::Points(at)
     }
 
-    fn unpack(self, kind: PointKind, table: &[u8], at: usize) -> Option<Unpacked<u16, PointPacking>> {
+    fn unpack(
+        self,
+        kind: PointKind,
+        table: &[u8],
+        at: usize,
+    ) -> Option<Unpacked<u16, PointPacking>> {
         let (gap, past) = gap_at(table, at, kind)?;
         let point = self.from.checked_add(gap)?;
         if point < self.low || point >= self.p {
