@@ -42,8 +42,10 @@ impl<'a> Case<'a> {
 
     // So many bytes of the table, 00 past its end and where no table has the name.
     pub fn bytes(&self, alloc: Global, tables: &Tables) -> Result<Vec<u8>, AllocError> {
-        let table = tables.get(self.name).map_or(&[], Vec::as_slice);
-        let mut bytes = Vec::from_slice(alloc, table)?;
+        let mut bytes = match tables.get(self.name) {
+            Some(table) => Vec::from_slice(alloc, table.as_slice())?,
+            None => Vec::new(alloc),
+        };
         bytes.resize(self.length, 0)?;
         Ok(bytes)
     }

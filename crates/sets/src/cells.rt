@@ -17,7 +17,7 @@ pub struct GlyphCell {
     pub next: Option<usize>,
 }
 
-#[derive(Clone, Copy)]
+#[derive(Clone, Copy, PartialEq, Eq, Debug)]
 pub struct VariationCell {
     // how many deltas the variation has, and the place of the first
     pub deltas: u16,

@@ -10,6 +10,7 @@ use crate::parts::TableParts;
 // The size of all that stands before the offsets.
 pub(crate) const HEAD_SIZE: usize = 20;
 
+// The parts, and the form of their offsets.
 #[derive(Drop)]
 pub struct Table<'p, P> {
     pub parts: &'p P,

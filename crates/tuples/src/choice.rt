@@ -11,7 +11,7 @@ use write::piece::FontWrite;
 use write::sink::{Sink, SinkError};
 
 // Whether all points are stored, the size of the packed points, and that of the packed coordinates.
-#[derive(Clone, Copy)]
+#[derive(Clone, Copy, PartialEq, Eq, Debug)]
 pub struct StoredPoints {
     pub all: bool,
     pub points: usize,

@@ -10,6 +10,9 @@ use write::batch::Batch;
 use write::piece::FontWrite;
 use write::sink::{Sink, SinkError};
 
+// The most bytes of a run: the control byte, and two for each of 64 values.
+const MAX_RUN_BYTES: usize = 129;
+
 // One coordinate of all the deltas, or of the required ones.
 #[derive(Clone, Copy)]
 pub struct PackedDeltas<'a> {
@@ -67,6 +70,6 @@ impl<'a> FontWrite for PackedDeltas<'a> {
     }
 
     fn feed<S: Sink>(&self, sink: &mut S) -> Result<(), SinkError> {
-        self.iter_runs().feed(Batch::<129>::new(), sink)
+        self.iter_runs().feed(Batch::<MAX_RUN_BYTES>::new(), sink)
     }
 }

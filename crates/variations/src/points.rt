@@ -15,6 +15,9 @@ use write::sink::{Sink, SinkError};
 // The bit of the first byte of a count that says that the count takes a word.
 const COUNT_IS_WORD: u8 = 0x80;
 
+// The most bytes of a run: the control byte, and two for each of 128 gaps.
+const MAX_RUN_BYTES: usize = 257;
+
 // All points of a glyph, or those whose deltas are required.
 #[derive(Clone, Copy)]
 pub enum PackedPointNumbers<'a> {
@@ -61,7 +64,7 @@ fn feed_required<S: Sink>(deltas: &[GlyphDelta], sink: &mut S) -> Result<(), Sin
     ensures { Fed S.step (required_bytes deltas.now) (S.stands sink.old) (S.stands sink.new) result }
 {
     put_count(required_count(deltas), sink)?;
-    PointRuns::new(deltas).feed(Batch::<257>::new(), sink)
+    PointRuns::new(deltas).feed(Batch::<MAX_RUN_BYTES>::new(), sink)
 }
 
 impl<'a> PackedPointNumbers<'a> {

@@ -26,7 +26,7 @@ pub trait Packed: Copy {
         ensures { Stepped (values self.now) (places self.now) place result };
 }
 
-// A run: its kind, how many values it has, the place of the first, and the place after the last of them.
+// A run: its kind, how many values it has, the place from which they are looked for, and the place after the last of them.
 #[derive(Clone, Copy)]
 pub struct Run<K> {
     pub kind: K,
