@@ -32,7 +32,11 @@ impl fmt::Display for Difference {
 fn are_values<F: Fn(i16) -> i16>(given: &[i16], read: Tuple<'_>, bound: F) -> bool
     requires { F.IsAlwaysCallable bound }
 {
-    read.iter().map(bound).eq(given.iter().copied())
+    given.len() == read.len()
+        && given
+            .iter()
+            .zip(read.iter())
+            .all(|(value, v)| bound(v) == *value)
 }
 
 fn bounds_differ(given: GlyphDeltas<'_>, entry: Entry<'_>) -> Option<Difference> {

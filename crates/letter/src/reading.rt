@@ -11,13 +11,14 @@ use std::io::{BufWriter, Stdout, Write};
 
 // The variations of a glyph among the first so many of the set.
 fn span_within(set: &Set<'_>, glyph: u16, variations: usize) -> Span {
-    match set.span(glyph as usize) {
-        Some(span) => Span {
-            first: span.first,
+    let none = Span { first: 0, count: 0 };
+    set.span(glyph as usize).map_or(
+        none,
+        |span| Span {
             count: span.count.min(variations.saturating_sub(span.first)),
+            ..span
         },
-        None => Span { first: 0, count: 0 },
-    }
+    )
 }
 
 // Prints the first difference of each entry, or that there is none.

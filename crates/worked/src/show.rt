@@ -30,10 +30,7 @@ fn same_items<T: PartialEq + Copy, F: FnMut() -> Result<Option<T>, StreamFault>>
             same = same.saturating_add(1);
         }
     }
-    match next().ok()? {
-        Some(_) => None,
-        None => Some(same),
-    }
+    next().ok()?.is_none().then_some(same)
 }
 
 // Prints the bytes, and how much of them `back` reads back.
