@@ -3,11 +3,9 @@ use Rattle.std.proofs.Common.{◌≡◌, ℕ, ◌+◌, ◌<◌, ◌≤◌, ◌�
 use Rattle.std.proofs.lemmas.Bool.{cases_eq}
 use Rattle.counts.specs.declared.cells.CountCell.{CountCell}
 use Rattle.counts.specs.Cells.{blank, first_at, count_at, head_at, next_at, rank_at, order_at, entered, chained}
-use Rattle.counts.specs.Links.{linked, to_item}
+use Rattle.links.specs.Links.{linked, to_item}
+use Rattle.links.proofs.Links.{linked_to}
 use Rattle.counts.specs.Tables.{LeavesRanks}
-
-pub linked_to : (i : ℕ) → linked (to_item i) ≡ Some i
-linked_to i = rw add-one refl
 
 -- what one field of every cell says, after a write of one cell
 module _ {V : Type 0} (field : CountCell → V) (cells : List CountCell) (i : ℕ) (c : CountCell) where

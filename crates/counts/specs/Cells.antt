@@ -1,7 +1,7 @@
 -- What a count table's cells hold, and what its writes do. Assumes nothing.
 use Rattle.std.specs.Prelude.{ℕ, ◌+◌, Bool, false, ◌&&◌, List, get_or, set, Option, ◌==◌, nat_le, nat_lt, slice_index_or, slice_set}
 use Rattle.counts.specs.declared.cells.CountCell.{CountCell}
-use Rattle.counts.specs.Links.{linked, no_link, to_item}
+use Rattle.links.specs.Links.{linked, no_link, to_item}
 
 -- the cell of zeros
 abbrev pub blank : CountCell

@@ -1,6 +1,5 @@
 pub mod Hashes
 pub mod Sameness
-pub mod Links
 pub mod Cells
 pub mod Tables
 pub mod Chains

@@ -2,7 +2,7 @@
 ghost use Rattle.std.specs.Prelude.{◌≡◌};
 ghost use Rattle.counts.specs.Cells.{blank, lists, repeats_as};
 
-use crate::link::Link;
+use links::link::Link;
 
 // One cell for each item.
 #[derive(Clone, Copy, PartialEq, Eq, Debug)]

@@ -6,9 +6,9 @@ ghost use Rattle.counts.specs.Chains.{State};
 
 use crate::cells::CountCell;
 use crate::items::Items;
-use crate::link::Link;
 use crate::table::CountTable;
 use crate::too_few::TooFewCells;
+use links::link::Link;
 
 // Notes that item i belongs to the class of an item that is not later.
 fn enter(cells: &mut [CountCell], i: usize, first: usize)
@@ -32,7 +32,7 @@ fn chain(cells: &mut [CountCell], i: usize, b: usize)
     ensures { cells.new ≡ chained cells.old i b }
 {
     cells[i].next = cells[b].head;
-    cells[b].head = Link::to(i);
+    cells[b].head = Link::of(Some(i));
 }
 
 // The first item that is the same as item i, of bucket b.

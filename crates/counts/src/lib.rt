@@ -6,7 +6,6 @@ pub mod filling;
 pub mod hash;
 mod heap;
 pub mod items;
-mod link;
 pub mod marking;
 pub mod peaks;
 pub mod ranking;

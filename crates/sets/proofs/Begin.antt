@@ -1,8 +1,10 @@
 -- What a cell for a new glyph does to the stores.
-use Rattle.std.proofs.Common.{◌≡◌, ℕ, Some, Option, ◌+◌, ◌-◌, ◌%◌, ◌<◌, ◌≤◌, false, ◌≢◌, List, [], ◌∷◌, ◌++◌, length, get_or, take, set, sym, refl, ap, ◌∙◌, subst, inl, inr, mod-lt, add-one, arith, length-set, take-suc-set}
+use Rattle.std.proofs.Common.{◌≡◌, ℕ, Some, ◌+◌, ◌-◌, ◌%◌, ◌<◌, ◌≤◌, false, ◌≢◌, List, [], ◌∷◌, ◌++◌, length, get_or, take, set, sym, refl, ap, ◌∙◌, subst, inl, inr, mod-lt, add-one, arith, length-set, take-suc-set}
 use lib.Seq.{take-set-le}
 use Rattle.std.proofs.lemmas.Bool.{cases_eq, false≢true}
 use Rattle.format.specs.Account.{begun, glyph, accepted}
+use Rattle.links.specs.declared.link.Link.{Link}
+use Rattle.links.specs.Links.{linked}
 use Rattle.sets.specs.declared.cells.GlyphCell.{GlyphCell}
 use Rattle.sets.specs.Cells.{variations_in, blank_glyph, number_at, count_at, first_at, head_at, next_at}
 use Rattle.sets.specs.Index.{previous, Heads, Nexts}
@@ -12,23 +14,23 @@ use Rattle.sets.proofs.Chains.{more_heads, more_nexts, kept_heads, kept_nexts, k
 use Rattle.sets.proofs.Lists.{groups_snoc, variations_in_snoc, kept_groups, kept_variations, field_same, field_other, field_kept, begun_at}
 
 -- the cell of the new glyph, and the cell whose place is its bucket
-abbrev pub new_cell : Stores → ℕ → Option ℕ → GlyphCell
-new_cell s n x = record { number = n; variations = 0; first = s.added; head = head_at s.glyphs s.begun; next = x }
+abbrev pub new_cell : Stores → ℕ → Link → GlyphCell
+new_cell s n x = record { number = n; variations = 0; first = s.added; head = (get_or s.glyphs s.begun blank_glyph).head; next = x }
 
-abbrev pub with_new : Stores → ℕ → Option ℕ → List GlyphCell
+abbrev pub with_new : Stores → ℕ → Link → List GlyphCell
 with_new s n x = set s.glyphs s.begun (new_cell s n x)
 
-abbrev pub headed : List GlyphCell → ℕ → Option ℕ → GlyphCell
-headed cs b x = record { number = number_at cs b; variations = count_at cs b; first = first_at cs b; head = x; next = next_at cs b }
+abbrev pub headed : List GlyphCell → ℕ → Link → GlyphCell
+headed cs b x = record { number = number_at cs b; variations = count_at cs b; first = first_at cs b; head = x; next = (get_or cs b blank_glyph).next }
 
-abbrev pub begun_cells : Stores → ℕ → ℕ → Option ℕ → List GlyphCell
-begun_cells s n b x = set (with_new s n x) b (headed (with_new s n x) b (Some s.begun))
+abbrev pub begun_cells : Stores → ℕ → ℕ → Link → Link → List GlyphCell
+begun_cells s n b x h = set (with_new s n x) b (headed (with_new s n x) b h)
 
-abbrev pub begin_stores : Stores → ℕ → ℕ → Option ℕ → Stores
-begin_stores s n b x = record {
+abbrev pub begin_stores : Stores → ℕ → ℕ → Link → Link → Stores
+begin_stores s n b x h = record {
   axes = s.axes;
   names = s.names;
-  glyphs = begun_cells s n b x;
+  glyphs = begun_cells s n b x h;
   variations = s.variations;
   values = s.values;
   deltas = s.deltas;
@@ -37,7 +39,7 @@ begin_stores s n b x = record {
   moved = s.moved;
 }
 
-module _ (s : Stores) (n b : ℕ) (x : Option ℕ) (room : s.begun < length s.glyphs) where
+module _ (s : Stores) (n b : ℕ) (x t : Link) (room : s.begun < length s.glyphs) where
   abbrev mid : List GlyphCell
   mid = with_new s n x
 
@@ -45,10 +47,10 @@ module _ (s : Stores) (n b : ℕ) (x : Option ℕ) (room : s.begun < length s.gl
   new = new_cell s n x
 
   abbrev cells : List GlyphCell
-  cells = begun_cells s n b x
+  cells = begun_cells s n b x t
 
   abbrev top : GlyphCell
-  top = headed mid b (Some s.begun)
+  top = headed mid b t
 
   mid_long : length mid ≡ length s.glyphs
   mid_long = length-set s.glyphs s.begun new
@@ -65,7 +67,7 @@ module _ (s : Stores) (n b : ℕ) (x : Option ℕ) (room : s.begun < length s.gl
   counted_all : variations_in (take (s.begun + 1) cells) ≡ variations_in (take s.begun s.glyphs)
   counted_all = kept_variations mid b (s.begun + 1) top refl ∙ ap variations_in taken ∙ variations_in_snoc (take s.begun s.glyphs) new ∙ omega arith
 
-  pub begin_account : account_in (begin_stores s n b x) ≡ accepted (account_in s) (glyph n)
+  pub begin_account : account_in (begin_stores s n b x t) ≡ accepted (account_in s) (glyph n)
   begin_account =
       let l = begun_long in
       let f : length cells - (s.begun + 1) ≡ length s.glyphs - s.begun - 1 = omega arith in
@@ -82,15 +84,15 @@ module _ (s : Stores) (n b : ℕ) (x : Option ℕ) (room : s.begun < length s.gl
   mid_other {X} field k q = let ne : k ≢ s.begun = omega arith in field_other field s.glyphs s.begun new k ne
 
   mid_heads : (k : ℕ) → head_at mid k ≡ head_at s.glyphs k
-  mid_heads k = field_kept (λ c. c.head) s.glyphs s.begun new room refl k
+  mid_heads k = field_kept (λ c. linked c.head) s.glyphs s.begun new room refl k
 
   mid_chained : Chained s.begun s.glyphs → Chained s.begun mid
   mid_chained h =
       subst (λ (k : ℕ). Heads (number_at mid) (head_at mid) s.begun k × Nexts (number_at mid) (next_at mid) s.begun k) (sym mid_long) (
         kept_heads (number_at s.glyphs) (number_at mid) (head_at s.glyphs) (next_at s.glyphs) (head_at mid) (next_at mid) s.begun (length s.glyphs)
-            (mid_other (λ c. c.number)) mid_heads (mid_other (λ c. c.next)) h.0,
+            (mid_other (λ c. c.number)) mid_heads (mid_other (λ c. linked c.next)) h.0,
         kept_nexts (number_at s.glyphs) (number_at mid) (head_at s.glyphs) (next_at s.glyphs) (head_at mid) (next_at mid) s.begun (length s.glyphs)
-            (mid_other (λ c. c.number)) mid_heads (mid_other (λ c. c.next)) h.1,
+            (mid_other (λ c. c.number)) mid_heads (mid_other (λ c. linked c.next)) h.1,
       )
 
   pub mid_sound : Sound s → Sound mid_stores
@@ -113,7 +115,7 @@ module _ (s : Stores) (n b : ℕ) (x : Option ℕ) (room : s.begun < length s.gl
         short = h.short;
       }
 
-  module _ (h : Sound s) (bucket : b ≡ n % length s.glyphs) (link : x ≡ previous (number_at s.glyphs) (length s.glyphs) b s.begun) where
+  module _ (h : Sound s) (bucket : b ≡ n % length s.glyphs) (link : linked x ≡ previous (number_at s.glyphs) (length s.glyphs) b s.begun) (front : linked t ≡ Some s.begun) where
     in_mid : b < length mid
     in_mid = let l = mid_long in let p : 0 < length s.glyphs = omega arith in let m : n % length s.glyphs < length s.glyphs = mod-lt _ p in omega arith
 
@@ -139,18 +141,18 @@ module _ (s : Stores) (n b : ℕ) (x : Option ℕ) (room : s.begun < length s.gl
     number_old g l = field_kept (λ c. c.number) mid b top in_mid refl g ∙ mid_other (λ c. c.number) g l
 
     head_here : head_at cells (number_at cells s.begun % length s.glyphs) ≡ Some s.begun
-    head_here = ap (head_at cells) (sym bucket_is) ∙ field_same (λ c. c.head) mid b top in_mid
+    head_here = ap (head_at cells) (sym bucket_is) ∙ field_same (λ c. linked c.head) mid b top in_mid ∙ front
 
     heads_old : (k : ℕ) → k ≢ number_at cells s.begun % length s.glyphs → head_at cells k ≡ head_at s.glyphs k
-    heads_old k ne = field_other (λ c. c.head) mid b top k (λ e. ne (e ∙ bucket_is)) ∙ mid_heads k
+    heads_old k ne = field_other (λ c. linked c.head) mid b top k (λ e. ne (e ∙ bucket_is)) ∙ mid_heads k
 
     next_here : next_at cells s.begun ≡ previous (number_at s.glyphs) (length s.glyphs) (number_at cells s.begun % length s.glyphs) s.begun
     next_here =
-        field_kept (λ c. c.next) mid b top in_mid refl s.begun ∙ field_same (λ c. c.next) s.glyphs s.begun new room
+        field_kept (λ c. linked c.next) mid b top in_mid refl s.begun ∙ field_same (λ c. linked c.next) s.glyphs s.begun new room
         ∙ link ∙ ap (λ (y : ℕ). previous (number_at s.glyphs) (length s.glyphs) y s.begun) bucket_is
 
     nexts_old : (j : ℕ) → j < s.begun → next_at cells j ≡ next_at s.glyphs j
-    nexts_old j l = field_kept (λ c. c.next) mid b top in_mid refl j ∙ mid_other (λ c. c.next) j l
+    nexts_old j l = field_kept (λ c. linked c.next) mid b top in_mid refl j ∙ mid_other (λ c. linked c.next) j l
 
     begin_chained : Chained (s.begun + 1) cells
     begin_chained =
@@ -174,7 +176,7 @@ module _ (s : Stores) (n b : ℕ) (x : Option ℕ) (room : s.begun < length s.gl
               omega (arith, h.few.0 i lt)
         ]
 
-    pub begin_sound : false ≡ begun n (account_in s).glyphs → n ≤ 65534 → Sound (begin_stores s n b x)
+    pub begin_sound : false ≡ begun n (account_in s).glyphs → n ≤ 65534 → Sound (begin_stores s n b x t)
     begin_sound new-one small =
         let l = begun_long in
         record {

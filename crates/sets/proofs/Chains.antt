@@ -1,5 +1,5 @@
 -- Laws of the chains of glyphs. Assumes nothing.
-use Rattle.std.proofs.Common.{◌≡◌, ℕ, zero, suc, ◌+◌, ◌%◌, ◌<◌, ◌≤◌, Bool, true, false, cond, eqb, Some, None, Option, MatchOption, IsSomeAnd, ◌≢◌, sym, refl, ap, ◌∙◌, subst, inl, inr, arith}
+use Rattle.std.proofs.Common.{◌≡◌, ℕ, zero, suc, ◌+◌, ◌%◌, ◌<◌, ◌≤◌, Bool, true, false, cond, eqb, Some, None, Option, MatchOption, IfSome, IsSomeAnd, ◌≢◌, sym, refl, ap, ◌∙◌, subst, inl, inr, arith}
 use Rattle.std.proofs.lemmas.Bool.{cases_eq, eq-eqb, ne_eqb, eqb-true, false≢true, or_from, or_parts, both_ways}
 use Rattle.sets.specs.Index.{previous, Heads, Nexts, seen, Apart, Low}
 
@@ -10,6 +10,11 @@ Inside N n b k x = MatchOption x (Unit {0}) (λ p. (p < k) × (N p % n ≡ b))
 inside_more : (N : ℕ → ℕ) (n b k : ℕ) (x : Option ℕ) → Inside N n b k x → Inside N n b (suc k) x
 inside_more N n b k None h = tt
 inside_more N n b k (Some p) h = (omega (arith, h.0), h.1)
+
+-- a place that is found is a number as small as the places are
+pub inside_fits : (N : ℕ → ℕ) (n b k most : ℕ) (x : Option ℕ) → Inside N n b k x → k ≤ most → IfSome x (λ p. p < most)
+inside_fits N n b k most None h l = tt
+inside_fits N n b k most (Some p) h l = omega (arith, h.0)
 
 inside_step : (N : ℕ → ℕ) (n b k : ℕ) (t : Bool) (x : Option ℕ) → (t ≡ true → N k % n ≡ b) → Inside N n b k x → Inside N n b (suc k) (cond t (Some k) x)
 inside_step N n b k true x e h = (omega arith, e refl)

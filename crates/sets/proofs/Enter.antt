@@ -3,6 +3,7 @@ use Rattle.std.proofs.Common.{◌≡◌, ℕ, suc, ◌+◌, ◌-◌, ◌*◌, �
 use lib.Seq.{take-set-le}
 use Rattle.std.proofs.lemmas.Bool.{cases_eq}
 use Rattle.tuples.specs.declared.choice.StoredPoints.{StoredPoints}
+use Rattle.links.specs.Links.{linked}
 use Rattle.sets.specs.declared.cells.GlyphCell.{GlyphCell}
 use Rattle.sets.specs.declared.cells.VariationCell.{VariationCell}
 use Rattle.sets.specs.Cells.{variations_in, deltas_in, blank_glyph, blank_variation, head_at, next_at, number_at, count_at, deltas_at, start_at}
@@ -82,9 +83,9 @@ module _ (s : Stores) (t n : ℕ) (r : StoredPoints) (h : Sound s) (room : Admit
   counted_chained =
       subst (λ (m : ℕ). Heads (number_at cells) (head_at cells) s.begun m × Nexts (number_at cells) (next_at cells) s.begun m) (sym (length-set s.glyphs (s.begun - 1) (one_more s))) (
         kept_heads (number_at s.glyphs) (number_at cells) (head_at s.glyphs) (next_at s.glyphs) (head_at cells) (next_at cells) s.begun (length s.glyphs)
-            (λ g _. kept (λ c. c.number) refl g) (kept (λ c. c.head) refl) (λ g _. kept (λ c. c.next) refl g) h.chained.0,
+            (λ g _. kept (λ c. c.number) refl g) (kept (λ c. linked c.head) refl) (λ g _. kept (λ c. linked c.next) refl g) h.chained.0,
         kept_nexts (number_at s.glyphs) (number_at cells) (head_at s.glyphs) (next_at s.glyphs) (head_at cells) (next_at cells) s.begun (length s.glyphs)
-            (λ g _. kept (λ c. c.number) refl g) (kept (λ c. c.head) refl) (λ g _. kept (λ c. c.next) refl g) h.chained.1,
+            (λ g _. kept (λ c. c.number) refl g) (kept (λ c. linked c.head) refl) (λ g _. kept (λ c. linked c.next) refl g) h.chained.1,
       )
 
   counted_few : (i : ℕ) → i < s.begun → count_at cells i ≤ 4095

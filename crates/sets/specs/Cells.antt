@@ -1,11 +1,12 @@
 -- What the cells of a store say, one by one and together.
-use Rattle.std.specs.Prelude.{ℕ, ◌+◌, false, List, [], ◌∷◌, None, Option, slice_index_or}
+use Rattle.std.specs.Prelude.{ℕ, ◌+◌, false, List, [], ◌∷◌, Option, slice_index_or}
+use Rattle.links.specs.Links.{linked, no_link}
 use Rattle.sets.specs.declared.cells.GlyphCell.{GlyphCell}
 use Rattle.sets.specs.declared.cells.VariationCell.{VariationCell}
 
 -- a glyph cell of zeros, without a head and a next
 abbrev pub blank_glyph : GlyphCell
-blank_glyph = record { number = 0; variations = 0; first = 0; head = None; next = None }
+blank_glyph = record { number = 0; variations = 0; first = 0; head = no_link; next = no_link }
 
 -- a variation cell of zeros
 abbrev pub blank_variation : VariationCell
@@ -25,11 +26,11 @@ first_at cs i = (slice_index_or cs i blank_glyph).first
 
 -- the head of bucket i
 abbrev pub head_at : List GlyphCell → ℕ → Option ℕ
-head_at cs i = (slice_index_or cs i blank_glyph).head
+head_at cs i = linked (slice_index_or cs i blank_glyph).head
 
 -- the link from the glyph at place i to the one before it in its bucket
 abbrev pub next_at : List GlyphCell → ℕ → Option ℕ
-next_at cs i = (slice_index_or cs i blank_glyph).next
+next_at cs i = linked (slice_index_or cs i blank_glyph).next
 
 -- how many deltas variation i has
 abbrev pub deltas_at : List VariationCell → ℕ → ℕ

@@ -3,6 +3,7 @@ ghost use Rattle.std.specs.Prelude.{◌≡◌};
 ghost use Rattle.sets.specs.Cells.{blank_glyph, blank_variation};
 
 use crate::view::Span;
+use links::link::Link;
 use tuples::choice::StoredPoints;
 
 #[derive(Clone, Copy, PartialEq, Eq, Debug)]
@@ -11,10 +12,10 @@ pub struct GlyphCell {
     // how many variations the glyph has, and the place of the first
     pub variations: u16,
     pub first: usize,
-    // the place of the last glyph in the bucket of this cell's place, once that bucket has one; before that, anything
-    pub head: Option<usize>,
-    // the place of the glyph before this one in its bucket
-    pub next: Option<usize>,
+    // to the last glyph in the bucket of this cell's place, once that bucket has one; before that, anywhere
+    pub head: Link,
+    // to the glyph before this one in its bucket
+    pub next: Link,
 }
 
 #[derive(Clone, Copy, PartialEq, Eq, Debug)]
@@ -35,8 +36,8 @@ impl GlyphCell {
             number: 0,
             variations: 0,
             first: 0,
-            head: None,
-            next: None,
+            head: Link::NONE,
+            next: Link::NONE,
         }
     }
 

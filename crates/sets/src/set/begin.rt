@@ -9,6 +9,7 @@ use crate::axis::AxisCount;
 use crate::cells::GlyphCell;
 use crate::refusal::Refusal;
 use crate::stores::Stores;
+use links::link::Link;
 
 // The largest number of a glyph.
 const LAST_NUMBER: u16 = 65534;
@@ -47,7 +48,7 @@ impl<'a> Set<'a> {
     {
         let at = self.begun;
         let bucket = usize::from(number) % self.glyphs.len();
-        let next = self.chain(bucket);
+        let next = Link::of(self.chain(bucket));
         self.glyphs[at] = GlyphCell {
             number,
             variations: 0,
@@ -55,7 +56,8 @@ impl<'a> Set<'a> {
             next,
             ..self.glyphs[at]
         };
-        self.glyphs[bucket].head = Some(at);
+        let head = Link::of(Some(at));
+        self.glyphs[bucket].head = head;
         self.begun = at + 1;
     }
 

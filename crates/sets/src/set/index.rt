@@ -22,7 +22,7 @@ impl<'a> Set<'a> {
         requires { bucket < length self.now.glyphs.now }
         ensures { result ≡ previous (number_at self.now.glyphs.now) (length self.now.glyphs.now) bucket self.now.begun }
     {
-        let at = self.glyphs[bucket].head?;
+        let at = self.glyphs[bucket].head.item()?;
         let cell = self.glyph_cells().get(at)?;
         if usize::from(cell.number) % self.glyphs.len() == bucket {
             Some(at)
@@ -43,7 +43,7 @@ impl<'a> Set<'a> {
             if usize::from(cell.number) == number {
                 return Some(place);
             }
-            at = cell.next;
+            at = cell.next.item();
         }
         None
     }

@@ -1,4 +1,4 @@
-use Rattle.counts.specs.Links.{linked}
+use Rattle.links.specs.Links.{linked}
 use Rattle.counts.specs.Chains.{Walk}
 use Rattle.counts.proofs.Walks.{steps_left}
 use Rattle.counts.proofs.filling.find.Given as goal

@@ -1,6 +1,6 @@
 use Rattle.std.proofs.Common.{◌≡◌, ◌<◌, ◌≢◌, length, get_or, refl, ap, ◌∙◌, arith, below_more, length-take-le}
 use Rattle.counts.specs.declared.cells.CountCell.{CountCell}
-use Rattle.counts.specs.Links.{linked, no_link}
+use Rattle.links.specs.Links.{linked, no_link}
 use Rattle.counts.specs.Cells.{blank}
 use Rattle.counts.proofs.Fronts.{joined_front, ranks_joined}
 use Rattle.counts.proofs.Steps.{field_same, field_other, leaves_more, leaves_set}

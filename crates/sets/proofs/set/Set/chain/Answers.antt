@@ -9,7 +9,7 @@ pub returns-in_err-at : goal.returns-in_err-at
 returns-in_err-at c =
     let s = c.args.self.now in
     let cs = s.glyphs.now in
-    c.from_residual.ensures ∙ no_head (number_at cs) (head_at cs) s.begun (length cs) c.args.bucket s.chained.0 (λ p q _ _. none-some p (sym c.in_err-at.was ∙ q))
+    c.from_residual.ensures ∙ no_head (number_at cs) (head_at cs) s.begun (length cs) c.args.bucket s.chained.0 (λ p q _ _. none-some p (sym c.in_err-at.was ∙ c.item.ensures ∙ q))
 
 pub returns-in_err-cell : goal.returns-in_err-cell
 returns-in_err-cell c =
@@ -17,7 +17,7 @@ returns-in_err-cell c =
     let cs = s.glyphs.now in
     c.from_residual-in_err-cell.ensures
     ∙ no_head (number_at cs) (head_at cs) s.begun (length cs) c.args.bucket s.chained.0
-    (λ p q k _. let e : c.in_ok-at.at ≡ p = same_Some _ _ (sym c.in_ok-at.was ∙ q) in omega (arith, c.in_err-cell.ensures.lookup.3, c.glyph_cells.ensures.len))
+    (λ p q k _. let e : c.in_ok-at.at ≡ p = same_Some _ _ (sym c.in_ok-at.was ∙ c.item.ensures ∙ q) in omega (arith, c.in_err-cell.ensures.lookup.3, c.glyph_cells.ensures.len))
 
 pub returns-then-from-self : goal.returns-then-from-self
 returns-then-from-self c =
@@ -28,7 +28,7 @@ returns-then-from-self c =
     let n : c.from.result ≡ number_at cs at =
     c.from.ensures
     ∙ ap (λ (x : GlyphCell). x.number) (c.in_ok-cell.ensures.lookup.3.1 blank_glyph ∙ ap (λ (xs : List GlyphCell). get_or xs at blank_glyph) c.glyph_cells.ensures.are ∙ get_or-take s.begun cs at blank_glyph l) in
-    sym c.in_ok-at.was
+    sym c.in_ok-at.was ∙ c.item.ensures
     ∙ some_head (number_at cs) (head_at cs) s.begun (length cs) c.args.bucket at s.chained.0 l (ap (λ (x : ℕ). x % length cs) (sym n) ∙ c.if-from-self.true)
 
 pub returns-else-from-self : goal.returns-else-from-self
@@ -42,5 +42,5 @@ returns-else-from-self c =
     ∙ ap (λ (x : GlyphCell). x.number) (c.in_ok-cell.ensures.lookup.3.1 blank_glyph ∙ ap (λ (xs : List GlyphCell). get_or xs at blank_glyph) c.glyph_cells.ensures.are ∙ get_or-take s.begun cs at blank_glyph l) in
     no_head (number_at cs) (head_at cs) s.begun (length cs) c.args.bucket s.chained.0
     (λ p q _ e.
-    let z : at ≡ p = same_Some _ _ (sym c.in_ok-at.was ∙ q) in
+    let z : at ≡ p = same_Some _ _ (sym c.in_ok-at.was ∙ c.item.ensures ∙ q) in
     c.if-from-self.false (ap (λ (x : ℕ). x % length cs) n ∙ subst (λ (y : ℕ). number_at cs y % length cs ≡ c.args.bucket) (sym z) e))

@@ -1,0 +1,4 @@
+// Links between cells that a caller lends.
+#![tactic(auto)]
+
+pub mod link;
