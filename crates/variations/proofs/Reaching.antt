@@ -1,9 +1,9 @@
 -- How far a run reaches, in any form, and the loop that looks for its end.
-use Rattle.std.proofs.Common.{◌≡◌, ℕ, zero, suc, ◌+◌, ◌-◌, ◌<◌, ◌≤◌, Bool, true, false, List, [], ◌∷◌, length, take, drop, Some, None, Option, sym, ap, ◌∙◌, subst, arith}
+use Rattle.std.proofs.Common.{◌≡◌, ℕ, zero, suc, ◌+◌, ◌-◌, ◌<◌, ◌≤◌, Bool, true, false, List, [], ◌∷◌, length, take, drop, Some, None, Option, sym, refl, ap, ◌∙◌, subst, arith}
 use Rattle.std.proofs.lemmas.Bool.{cond_both, cond-true, cond-false}
 use Rattle.std.specs.List.{AllByRecursion}
 use Rattle.variations.specs.declared.runs.Step.{Step}
-use Rattle.variations.specs.Forms.{Form, Lawful, first_kind, kind_ahead, reach}
+use Rattle.variations.specs.Forms.{Form, Lawful, Blind, first_kind, kind_ahead, reach}
 use Rattle.variations.specs.Runs.{Stepped}
 
 module _ {K V : Type 0} (f : Form K V) where
@@ -57,3 +57,14 @@ module _ {K V : Type 0} (f : Form K V) where
         let t' : Stepped values places at (Some s) = subst (λ o. Stepped values places at o) e t in
         let g : kn ≡ first_kind f (values s.after) = en ∙ kind_first s.after next n in
         record { further = t'.0; inside = t'.1; begins = t'.2; test = cc }
+
+    -- the same, where what follows is known, or does not matter
+    pub seen_test : (sees : Bool) (law : sees ≡ false → Blind f) (k kv : K) (kn : Option K) (at : ℕ) (this next : Option (Step V)) (s : Step V) (b : Bool) →
+        this ≡ Some s → Stepped values places at this → (sees ≡ true → Stepped values places s.after next) →
+        kv ≡ f.kind_of s.value → kn ≡ kind_ahead f next → b ≡ f.stops k kv kn → StopTest k at s.after s.value b
+    seen_test true law k kv kn at this next s b e t h ev ek eb = stop_test k kv kn at this next s b e t (h refl) ev ek eb
+    seen_test false law k kv kn at this next s b e t h ev ek eb =
+        let t' : Stepped values places at (Some s) = subst (λ o. Stepped values places at o) e t in
+        let one : f.stops k (f.kind_of s.value) kn ≡ f.stops k (f.kind_of s.value) None = law refl k (f.kind_of s.value) kn in
+        let other : f.stops k (f.kind_of s.value) (first_kind f (values s.after)) ≡ f.stops k (f.kind_of s.value) None = law refl k (f.kind_of s.value) (first_kind f (values s.after)) in
+        record { further = t'.0; inside = t'.1; begins = t'.2; test = other ∙ sym one ∙ ap (λ x. f.stops k x kn) (sym ev) ∙ sym eb }

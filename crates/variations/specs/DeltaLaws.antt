@@ -8,7 +8,7 @@ use Rattle.format.specs.Packed.{Kind, zeros, bytes, words, kind, is_zero, is_wor
 use Rattle.format.specs.Packed.{stops as format_stops, cut_at_most as format_cut_at_most, run_bytes as format_run_bytes, cut as format_cut}
 use Rattle.kinds.specs.declared.delta.DeltaKind.{DeltaKind}
 use Rattle.kinds.specs.declared.delta.DeltaKind.TheVariants.{Zeros, Bytes, Words}
-use Rattle.variations.specs.Forms.{Cut, Lawful, first_kind, reach, cut_at_most, run_bytes}
+use Rattle.variations.specs.Forms.{Cut, Lawful, Blind, first_kind, reach, cut_at_most, run_bytes}
 use Rattle.variations.specs.DeltaForm.{meant, kind_for, is_zero_value, is_byte_value, kind_of, holds, zeros_follow, short_follows, stops, flag, width, cut_of, delta_form}
 
 -- the program's kinds are those of the definitions
@@ -126,6 +126,10 @@ flag_most : (k : DeltaKind) → flag k + 64 ≤ 256
 flag_most Zeros = omega arith
 flag_most Bytes = omega arith
 flag_most Words = omega arith
+
+-- deltas do look at what follows
+pub delta_blind : true ≡ false → Blind delta_form
+delta_blind sees = absurd (true≢false sees)
 
 pub delta_lawful : Lawful delta_form 64
 delta_lawful = record {

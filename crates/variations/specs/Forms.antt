@@ -51,6 +51,10 @@ module _ {K V : Type 0} (f : Form K V) where
   abbrev pub run_bytes : Cut K V → List ℕ
   run_bytes r = (f.flag r.kind + (length r.values - 1)) ∷ joined (map (f.value_bytes r.kind) r.values)
 
+-- where a run ends does not depend on what follows the value before which it may stop
+abbrev pub Blind : {K V : Type 0} → Form K V → Type 0
+Blind {K = K} f = (k this : K) (next : Option K) → f.stops k this next ≡ f.stops k this None
+
 -- what every form keeps, where a run has at most `most` values
 pub record Lawful {K V : Type 0} (f : Form K V) (most : ℕ) : Type 0 where
   pub some_values : 0 < most

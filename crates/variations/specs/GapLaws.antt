@@ -5,7 +5,7 @@ use Rattle.format.specs.Bytes.{joined}
 use Rattle.format.specs.Packed.{is_wide, same_class, class_extent, GapRun, cut_gaps_at_most, gap_run_bytes}
 use Rattle.kinds.specs.declared.point.PointKind.{PointKind}
 use Rattle.kinds.specs.declared.point.PointKind.TheVariants.{Bytes, Words}
-use Rattle.variations.specs.Forms.{Cut, Lawful, first_kind, reach, cut_at_most, run_bytes}
+use Rattle.variations.specs.Forms.{Cut, Lawful, Blind, first_kind, reach, cut_at_most, run_bytes}
 use Rattle.variations.specs.Gaps.{cut_gaps}
 use Rattle.variations.specs.GapForm.{meant, kind_for, stops, flag, width, cut_of, gap_form}
 
@@ -82,6 +82,13 @@ width_most Words = omega arith
 flag_most : (k : PointKind) → flag k + 128 ≤ 256
 flag_most Bytes = omega arith
 flag_most Words = omega arith
+
+-- what follows a gap is never asked
+pub gap_blind : Blind gap_form
+gap_blind Bytes Bytes next = refl
+gap_blind Bytes Words next = refl
+gap_blind Words Bytes next = refl
+gap_blind Words Words next = refl
 
 pub gap_lawful : Lawful gap_form 128
 gap_lawful = record {

@@ -1,7 +1,7 @@
 // How deltas are held in runs.
-ghost use Rattle.std.specs.Prelude.{◌≡◌};
+ghost use Rattle.std.specs.Prelude.{◌≡◌, true};
 ghost use Rattle.variations.specs.DeltaForm.{stops, delta_form};
-ghost use Rattle.variations.specs.DeltaLaws.{delta_lawful};
+ghost use Rattle.variations.specs.DeltaLaws.{delta_lawful, delta_blind};
 
 use crate::run_kind::RunKind;
 use kinds::delta::DeltaKind;
@@ -14,7 +14,11 @@ impl RunKind for DeltaKind {
 
     ghost MOST = { 64 };
 
+    ghost LOOKS_AHEAD = { true };
+
     const MOST: usize = 64;
+
+    const LOOKS_AHEAD: bool = true;
 
     fn of(value: i16) -> DeltaKind {
         if value == 0 {
@@ -72,4 +76,6 @@ impl RunKind for DeltaKind {
     }
 
     ghost lawful = { delta_lawful };
+
+    ghost blind = { delta_blind };
 }

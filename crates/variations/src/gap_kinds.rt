@@ -1,7 +1,7 @@
 // How gaps between points are held in runs.
-ghost use Rattle.std.specs.Prelude.{◌≡◌};
+ghost use Rattle.std.specs.Prelude.{◌≡◌, false};
 ghost use Rattle.variations.specs.GapForm.{stops, gap_form};
-ghost use Rattle.variations.specs.GapLaws.{gap_lawful};
+ghost use Rattle.variations.specs.GapLaws.{gap_lawful, gap_blind};
 
 use crate::run_kind::RunKind;
 use kinds::point::PointKind;
@@ -14,7 +14,11 @@ impl RunKind for PointKind {
 
     ghost MOST = { 128 };
 
+    ghost LOOKS_AHEAD = { false };
+
     const MOST: usize = 128;
+
+    const LOOKS_AHEAD: bool = false;
 
     fn of(gap: usize) -> PointKind {
         if gap > 255 {
@@ -53,4 +57,6 @@ impl RunKind for PointKind {
     }
 
     ghost lawful = { gap_lawful };
+
+    ghost blind = { λ _. gap_blind };
 }

@@ -1,7 +1,7 @@
 // How the values of a run are held.
-ghost use Rattle.std.specs.Prelude.{◌≡◌, ℕ, true};
+ghost use Rattle.std.specs.Prelude.{◌≡◌, ℕ, Bool, true, false};
 ghost use Rattle.write.specs.Sinks.{Fed};
-ghost use Rattle.variations.specs.Forms.{Form, Lawful};
+ghost use Rattle.variations.specs.Forms.{Form, Lawful, Blind};
 
 use write::sink::{Sink, SinkError};
 
@@ -13,8 +13,13 @@ pub trait RunKind: Copy {
 
     ghost MOST: { ℕ };
 
+    ghost LOOKS_AHEAD: { Bool };
+
     // A run has at most this many values: its control byte can count no more.
     const MOST: usize;
+
+    // Does it matter for a run's end what follows the value before which it may stop?
+    const LOOKS_AHEAD: bool;
 
     // The smallest kind that holds a value.
     fn of(value: Self::Value) -> Self
@@ -37,4 +42,6 @@ pub trait RunKind: Copy {
         ensures { form.holds self value ≡ true → Fed S.step (form.value_bytes self value) (S.stands sink.old) (S.stands sink.new) result };
 
     ghost lawful: { Lawful form MOST };
+
+    ghost blind: { LOOKS_AHEAD ≡ false → Blind form };
 }

@@ -1,5 +1,5 @@
 // Runs of packed values, one at a time.
-ghost use Rattle.std.specs.Prelude.{◌≡◌, ℕ, ◌+◌, ◌-◌, ◌≤◌, List, length, drop};
+ghost use Rattle.std.specs.Prelude.{◌≡◌, ℕ, ◌+◌, ◌-◌, ◌≤◌, true, List, length, drop};
 ghost use Rattle.std.specs.Iterator.{at_most};
 ghost use Rattle.variations.specs.Forms.{kind_ahead, reach};
 ghost use Rattle.variations.specs.Runs.{Stepped, NextRun, place_after};
@@ -49,6 +49,33 @@ fn kind_ahead<K: RunKind>(step: Option<Step<K::Value>>) -> Option<K>
 }
 
 impl<P: Packed> Runs<P> {
+    // The first value from a place on, where it matters for the end of a run.
+    fn look_ahead(&self, place: usize) -> Option<Step<<P::Kind as RunKind>::Value>>
+        ensures { P.Kind.LOOKS_AHEAD ≡ true → Stepped (P.values self.now.values) (P.places self.now.values) place result }
+    {
+        if P::Kind::LOOKS_AHEAD {
+            self.values.step(place)
+        } else {
+            None
+        }
+    }
+
+    // The same, whether it matters or not: what was seen of it ahead, or a look now.
+    fn step_at(
+        &self,
+        ahead: Option<Step<<P::Kind as RunKind>::Value>>,
+        place: usize,
+    ) -> Option<Step<<P::Kind as RunKind>::Value>>
+        requires { P.Kind.LOOKS_AHEAD ≡ true → Stepped (P.values self.now.values) (P.places self.now.values) place ahead }
+        ensures { Stepped (P.values self.now.values) (P.places self.now.values) place result }
+    {
+        if P::Kind::LOOKS_AHEAD {
+            ahead
+        } else {
+            self.values.step(place)
+        }
+    }
+
     // How many values the run has whose first value lies before `place`, and the place after them.
     fn run_end(&self, kind: P::Kind, place: usize) -> (usize, usize)
         requires { place ≤ P.places self.now.values }
@@ -58,17 +85,16 @@ impl<P: Packed> Runs<P> {
         ensures within { result.1 ≤ P.places self.now.values }
     {
         let mut end = place;
-        let mut this = self.values.step(place);
+        let mut ahead = self.look_ahead(place);
         for n in 1..P::Kind::MOST {
-            let Some(step) = this else {
+            let Some(step) = self.step_at(ahead, end) else {
                 return (n, end);
             };
-            let next = self.values.step(step.after);
-            if kind.stops_before(P::Kind::of(step.value), kind_ahead(next)) {
+            ahead = self.look_ahead(step.after);
+            if kind.stops_before(P::Kind::of(step.value), kind_ahead(ahead)) {
                 return (n, end);
             }
             end = step.after;
-            this = next;
         }
         (P::Kind::MOST, end)
     }

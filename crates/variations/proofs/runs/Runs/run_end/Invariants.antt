@@ -1,4 +1,4 @@
-use Rattle.std.proofs.Common.{◌≡◌, ◌+◌, ◌-◌, ◌≤◌, drop}
+use Rattle.std.proofs.Common.{◌≡◌, ◌+◌, ◌-◌, ◌≤◌, true, drop}
 use Rattle.variations.specs.Forms.{reach}
 use Rattle.variations.specs.Runs.{Stepped}
 use Rattle.variations.proofs.runs.Runs.run_end.Given as goal
@@ -12,7 +12,7 @@ invariant-loop-n g l =
     record {
       paced : l.place + l.n ≤ l.end + 1;
       inside : l.end ≤ p.places l.self.values;
-      this : Stepped (p.values l.self.values) (p.places l.self.values) l.end l.this;
+      ahead : k.LOOKS_AHEAD ≡ true → Stepped (p.values l.self.values) (p.places l.self.values) l.end l.ahead;
       count : l.n + reach k.form l.kind (k.MOST - l.n) at ≡ 1 + reach k.form l.kind (k.MOST - 1) first;
       end : drop (reach k.form l.kind (k.MOST - l.n) at) at ≡ drop (reach k.form l.kind (k.MOST - 1) first) first;
     }
