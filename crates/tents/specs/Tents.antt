@@ -1,5 +1,6 @@
 -- The tents of the program as the definitions of the table have them.
-use Rattle.std.specs.Prelude.{ℤ, Some, None, Option as Optional}
+use Rattle.std.specs.Prelude.{ℤ, Bool, Some, None, Option as Optional}
+use Rattle.std.specs.Ordering.{on, eq_of_both, int_eq}
 use Rattle.std.proofs.Math.Option.{Option, none, some}
 use Rattle.format.specs.Account.{Given, tent}
 use Rattle.format.specs.Account.{Tent as AxisTent}
@@ -23,3 +24,7 @@ tent_of t = tent (given t)
 abbrev pub given_of : ℤ → Optional (ℤ × ℤ) → Given
 given_of p None = record { peak = p; bounds = none }
 given_of p (Some b) = record { peak = p; bounds = some b }
+
+-- tents are the same where their peaks and their bounds are, given or implied
+abbrev pub same_tent : Tent → Tent → Bool
+same_tent = eq_of_both (on (λ t. (tent_of t).peak) int_eq) (eq_of_both (on (λ t. (tent_of t).start) int_eq) (on (λ t. (tent_of t).end) int_eq))

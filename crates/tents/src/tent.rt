@@ -3,6 +3,8 @@ ghost use Rattle.std.specs.Prelude.{◌≡◌, not};
 ghost use Rattle.format.specs.Account.{implied_start, implied_end, tent};
 ghost use Rattle.format.specs.Glyphs.{bounds_implied};
 ghost use Rattle.tents.specs.Tents.{tent_of, given, given_of};
+ghost use Rattle.std.specs.Cmp.Rules.{comparing};
+ghost use Rattle.std.proofs.Common.{rules};
 
 // Where a variation begins to apply on an axis, and where it ceases, in units of 1/16384.
 #[derive(Clone, Copy, PartialEq, Eq, Debug)]
@@ -12,7 +14,7 @@ pub struct Bounds {
 }
 
 // The peak, where the variation applies in full, with bounds of its own or with those that it implies.
-#[derive(Clone, Copy, PartialEq, Eq, Debug)]
+#[derive(Clone, Copy, Debug)]
 pub struct Tent {
     pub peak: i16,
     pub bounds: Option<Bounds>,
@@ -29,6 +31,23 @@ impl Bounds {
             max: peak.max(0),
         }
     }
+}
+
+// Tents are equal where they mean the same: one without bounds has those that its peak implies.
+impl PartialEq for Tent {
+    ghost use Rattle.tents.specs.Tents.{same_tent};
+
+    ghost eq = { same_tent };
+
+    ghost laws = { Prim.search (comparing, rules) };
+
+    fn eq(&self, other: &Tent) -> bool {
+        self.peak == other.peak && self.extent() == other.extent()
+    }
+}
+
+impl Eq for Tent {
+    ghost laws = { Prim.search (comparing, rules) };
 }
 
 impl Tent {
