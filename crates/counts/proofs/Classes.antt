@@ -70,6 +70,13 @@ module _ {alike : ℕ → ℕ → Bool} {n : ℕ} (s : Sameness alike n) where
       let hk : k < n = omega (arith, f.inside) in
       both_ways _ (f.least k l) (s.transitive k j i hk hj hi b (s.symmetric i j hi hj e))))
 
+  -- and the other way round
+  pub same_first : (i j : ℕ) → i < n → j < n → first n alike i ≡ first n alike j → alike i j ≡ true
+  same_first i j hi hj e =
+      let f = first_is_least i hi in
+      let g : alike (first n alike i) j ≡ true = subst (λ (x : ℕ). alike x j ≡ true) (sym e) (first_alike j hj) in
+      s.transitive i (first n alike i) j hi f.inside hj (s.symmetric (first n alike i) i f.inside hi f.passes) g
+
   -- a first item is its own
   pub first_first : (i : ℕ) → i < n → first n alike (first n alike i) ≡ first n alike i
   first_first i l = sym (first_same (first n alike i) i (first_inside i l) l (first_alike i l))

@@ -79,3 +79,11 @@ module _ {alike : ℕ → ℕ → Bool} {n : ℕ} (s : Sameness alike n) (worth 
         ranks = ranks;
         orders = λ r l. spreading-orders r ∙ marking-orders r ∙ ranked_place n alike score k O all_classes inside heads rising r (subst (λ (m : ℕ). r < m) (sym all_classes) l);
       }
+
+-- ranks stay where cells keep their ranks and orders
+pub standing_stays : (same : ℕ → ℕ → Bool) (score : ℕ → ℕ) (n : ℕ) (old new : List CountCell) → length new ≡ length old → ((i : ℕ) → rank_at new i ≡ rank_at old i) → ((r : ℕ) → order_at new r ≡ order_at old r) → Standing same score n old → Standing same score n new
+standing_stays same score n old new long ranks orders t = record {
+  long = omega (arith, t.long);
+  ranks = λ i l. ranks i ∙ t.ranks i l;
+  orders = λ r l. orders r ∙ t.orders r l;
+}
