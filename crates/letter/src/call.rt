@@ -2,7 +2,7 @@
 use lent::memory::Sizes;
 use std::alloc::{AllocError, Global};
 use std::num::ParseIntError;
-use std::str::FromStr;
+use std::str::{FromStr, SplitWhitespace};
 use tents::tent::{Bounds, Tent};
 use thiserror::Error;
 use variations::delta::GlyphDelta;
@@ -97,10 +97,14 @@ fn delta_of(word: &str) -> Result<GlyphDelta, CallError> {
     }
 }
 
-// T.. ; D..
-fn variation_of(alloc: Global, text: &str) -> Result<Call, CallError> {
-    let (tents, deltas) = text.split_once(';').ok_or(CallError::Form)?;
-    let tents = tents.split_whitespace().map(tent_of).try_collect(alloc)?;
+// variation T.. ; D..
+fn variation_of(alloc: Global, line: &str) -> Result<Call, CallError> {
+    let (tents, deltas) = line.split_once(';').ok_or(CallError::Form)?;
+    let tents = tents
+        .split_whitespace()
+        .skip(1)
+        .map(tent_of)
+        .try_collect(alloc)?;
     let deltas = deltas.split_whitespace().map(delta_of).try_collect(alloc)?;
     Ok(Call::Variation(tents, deltas))
 }
@@ -111,23 +115,35 @@ fn axes_of(word: &str) -> Result<u16, CallError> {
     Ok(u16::try_from(count).unwrap_or(u16::MAX))
 }
 
-// A call whose words are all of one kind each.
-fn plain_call(words: &[&str]) -> Result<Call, CallError> {
-    match words {
-        ["stores", glyphs, variations, values, deltas, counts] => Ok(Call::Stores(Sizes {
-            glyphs: glyphs.parse::<usize>()?,
-            variations: variations.parse::<usize>()?,
-            values: values.parse::<usize>()?,
-            deltas: deltas.parse::<usize>()?,
-            counts: counts.parse::<usize>()?,
-        })),
-        ["axes", count] => Ok(Call::Axes(axes_of(count)?)),
-        ["glyph", number] => Ok(Call::Glyph(number.parse::<u16>()?)),
-        ["compile", kind, allowance] => Ok(Call::Compile {
+// The words G V A D C.
+fn stores_of(words: &mut SplitWhitespace<'_>) -> Result<Call, CallError> {
+    let mut sizes = [0usize; 5];
+    for size in &mut sizes {
+        *size = words.next().ok_or(CallError::Form)?.parse::<usize>()?;
+    }
+    if words.next().is_some() {
+        return Err(CallError::Form);
+    }
+    let [glyphs, variations, values, deltas, counts] = sizes;
+    Ok(Call::Stores(Sizes {
+        glyphs,
+        variations,
+        values,
+        deltas,
+        counts,
+    }))
+}
+
+// A call of one word or two after its name. A line may be long: of more words only the next is looked at.
+fn short_call(name: &str, words: &mut SplitWhitespace<'_>) -> Result<Call, CallError> {
+    match (name, words.next(), words.next(), words.next()) {
+        ("axes", Some(count), None, _) => Ok(Call::Axes(axes_of(count)?)),
+        ("glyph", Some(number), None, _) => Ok(Call::Glyph(number.parse::<u16>()?)),
+        ("compile", Some(kind), Some(allowance), None) => Ok(Call::Compile {
             kind: kind.parse::<Kind>()?,
             allowance: allowance.parse::<usize>()?,
         }),
-        ["read", glyph, points] => Ok(Call::Read {
+        ("read", Some(glyph), Some(points), None) => Ok(Call::Read {
             glyph: glyph.parse::<u16>()?,
             points: points.parse::<u16>()?,
         }),
@@ -137,10 +153,12 @@ fn plain_call(words: &[&str]) -> Result<Call, CallError> {
 
 impl Call {
     pub fn of(alloc: Global, line: &str) -> Result<Call, CallError> {
-        if let Some(("variation", rest)) = line.trim_start().split_once(char::is_whitespace) {
-            return variation_of(alloc, rest);
+        let mut words = line.split_whitespace();
+        match words.next() {
+            Some("variation") => variation_of(alloc, line),
+            Some("stores") => stores_of(&mut words),
+            Some(name) => short_call(name, &mut words),
+            None => Err(CallError::Form),
         }
-        let words: Vec<&str> = line.split_whitespace().collect(alloc)?;
-        plain_call(words.as_slice())
     }
 }

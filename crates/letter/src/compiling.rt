@@ -5,6 +5,7 @@ use crate::session::Session;
 use crate::show::show_refused;
 use gvar::compile::compile;
 use printed::bytes::Bytes;
+use std::alloc::Global;
 use std::io::{BufWriter, Stdout, Write};
 use std::{io, mem};
 use write::buffer::Buffer;
@@ -15,11 +16,34 @@ use write::sink::Sink;
 // No table is longer: the glyphs take at most 64 MiB, and offsets and shared peaks less than one more.
 const MOST_BYTES: usize = 68157440;
 
-// The table last compiled to a buffer, and how many variations the set had then; none before the first.
+// How long a table is, and how many variations the set had when it was compiled.
+#[derive(Clone, Copy)]
+struct Extent {
+    length: usize,
+    variations: usize,
+}
+
+// The table last compiled to a buffer, at the front of the memory that buffers are lent; none before the first.
 #[derive(Drop)]
 pub struct Kept {
-    pub bytes: Vec<u8>,
-    pub variations: Option<usize>,
+    memory: Vec<u8>,
+    extent: Option<Extent>,
+}
+
+impl Kept {
+    pub fn none(alloc: Global) -> Kept {
+        Kept {
+            memory: Vec::new(alloc),
+            extent: None,
+        }
+    }
+
+    // The table, and how many variations the set had then.
+    pub fn table(&self) -> Option<(&[u8], usize)> {
+        let Extent { length, variations } = self.extent?;
+        let table = self.memory.as_slice().get(..length)?;
+        Some((table, variations))
+    }
 }
 
 impl Session<'_> {
@@ -47,20 +71,20 @@ impl Session<'_> {
         }
     }
 
-    // A compile that is refused hands nothing over, so the table before it stays.
+    // A compile that is refused hands nothing over, so the table before it stays. The memory only grows, so it is filled
+    // once and not at each compile.
     fn compile_buffer(&mut self, line: &str, allowance: usize) -> anyhow::Result<()> {
         let allowance = allowance.min(MOST_BYTES);
-        let mut bytes = mem::replace(&mut self.kept.bytes, Vec::new(self.alloc));
-        let before = bytes.len();
-        bytes.resize(before.max(allowance), 0)?;
-        let mut buffer = Buffer::new(&mut bytes.as_mut_slice()[..allowance]);
+        let mut memory = mem::replace(&mut self.kept.memory, Vec::new(self.alloc));
+        memory.resize(memory.len().max(allowance), 0)?;
+        let mut buffer = Buffer::new(&mut memory.as_mut_slice()[..allowance]);
         let granted = self.compile_to(line, &mut buffer, |out, buffer| {
             writeln!(out, "table{}", Bytes(buffer.taken()))
         })?;
-        bytes.truncate(granted.unwrap_or(before));
-        self.kept.bytes = bytes;
-        if granted.is_some() {
-            self.kept.variations = Some(self.lent.set.variation_count());
+        self.kept.memory = memory;
+        if let Some(length) = granted {
+            let variations = self.lent.set.variation_count();
+            self.kept.extent = Some(Extent { length, variations });
         }
         Ok(())
     }

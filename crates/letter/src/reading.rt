@@ -55,10 +55,10 @@ impl Session<'_> {
     // Prints the glyph with so many points of the kept table, and whether it is what was handed in before the compile.
     pub fn read(&mut self, line: Line<'_>, glyph: u16, points: u16) -> io::Result<()> {
         let Line { number, text } = line;
-        let Some(variations) = self.kept.variations else {
+        let Some((table, variations)) = self.kept.table() else {
             return writeln!(self.out, "line {number}: no table is compiled to a buffer");
         };
-        let slot = match open_glyph(self.kept.bytes.as_slice(), glyph, points) {
+        let slot = match open_glyph(table, glyph, points) {
             Ok(slot) => slot,
             Err(fault) => return writeln!(self.out, "{text}: {fault}"),
         };

@@ -23,10 +23,7 @@ impl<'a> Session<'a> {
             out,
             alloc,
             lent,
-            kept: Kept {
-                bytes: Vec::new(alloc),
-                variations: None,
-            },
+            kept: Kept::none(alloc),
         }
     }
 

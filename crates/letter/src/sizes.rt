@@ -3,22 +3,24 @@ use lent::memory::Sizes;
 
 // As many as the calls of a script can use.
 pub fn ample(script: &str) -> Sizes {
-    let words = script.split_whitespace().count();
-    let variations = count_of(script, "variation");
+    let mut words = 0usize;
+    let mut glyphs = 0usize;
+    let mut variations = 0usize;
+    for word in script.split_whitespace() {
+        words = words.saturating_add(1);
+        match word {
+            "glyph" => glyphs = glyphs.saturating_add(1),
+            "variation" => variations = variations.saturating_add(1),
+            _ => {}
+        }
+    }
     Sizes {
-        glyphs: count_of(script, "glyph"),
+        glyphs,
         variations,
         values: words.saturating_mul(3),
         deltas: words,
         counts: variations,
     }
-}
-
-fn count_of(script: &str, wanted: &str) -> usize {
-    script
-        .split_whitespace()
-        .filter(|word| *word == wanted)
-        .count()
 }
 
 // As many as are asked for, but no more than a script can use: the others need not be lent.
