@@ -77,6 +77,8 @@ impl<'a, 'w> Case<'a, 'w> {
         let axes = parsed::<usize>(&mut self.words)?;
         let bounds = read_bounds(&mut self.words)?;
         let deltas = read_deltas(self.alloc, &mut self.words)?;
+        // where no variation is added no tents are made
+        let axes = if count == 0 { 0 } else { axes };
         let mut tents = vec![in self.alloc; Tent { peak, bounds }; axes]?;
         let answer = self.add(count, step, tents.as_mut_slice(), deltas.as_slice());
         write!(self.out, " | added")?;

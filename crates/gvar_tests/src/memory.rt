@@ -4,8 +4,9 @@ use counts::cells::CountCell;
 use counts::peaks::Peaks;
 use counts::table::CountTable;
 use lent::memory::{Memory, Sizes};
+use links::link::Link;
 use sets::cells::{GlyphCell, VariationCell};
-use std::alloc::Global;
+use std::alloc::{AllocError, Global};
 use std::str::SplitWhitespace;
 use tuples::choice::StoredPoints;
 use variations::delta::GlyphDelta;
@@ -16,8 +17,8 @@ fn odd_glyph(i: usize) -> GlyphCell {
         number: (i % 5) as u16,
         variations: 65535,
         first: usize::MAX,
-        head: Some(i % 3),
-        next: Some(i % 4),
+        head: Link::of(Some(i % 3)),
+        next: Link::of(Some(i % 4)),
     }
 }
 
@@ -39,29 +40,31 @@ pub fn read_memory(alloc: Global, words: &mut SplitWhitespace<'_>) -> anyhow::Re
     let variations = parsed::<usize>(words)?;
     let values = parsed::<usize>(words)?;
     let deltas = parsed::<usize>(words)?;
-    let odd = words.next() == Some("odd");
-    let counts = used_cells(alloc, parsed::<usize>(words)?)?;
-    if odd {
-        Ok(Memory {
-            glyphs: (0..glyphs).map(odd_glyph).collect(alloc)?,
-            variations: vec![in alloc; odd_variation(); variations]?,
-            values: vec![in alloc; -7; values]?,
-            deltas: vec![in alloc; GlyphDelta::required(-7, -7); deltas]?,
-            counts,
-        })
+    let sizes = Sizes {
+        glyphs,
+        variations,
+        values,
+        deltas,
+        counts: 0,
+    };
+    let memory = if words.next() == Some("odd") {
+        odd_memory(alloc, sizes)?
     } else {
-        let blank = Memory::blank(
-            alloc,
-            Sizes {
-                glyphs,
-                variations,
-                values,
-                deltas,
-                counts: 0,
-            },
-        )?;
-        Ok(Memory { counts, ..blank })
-    }
+        Memory::blank(alloc, sizes)?
+    };
+    let counts = used_cells(alloc, parsed::<usize>(words)?)?;
+    Ok(Memory { counts, ..memory })
+}
+
+// Stores whose cells seem to be in use, and no count cells.
+fn odd_memory(alloc: Global, sizes: Sizes) -> Result<Memory, AllocError> {
+    Ok(Memory {
+        glyphs: (0..sizes.glyphs).map(odd_glyph).collect(alloc)?,
+        variations: vec![in alloc; odd_variation(); sizes.variations]?,
+        values: vec![in alloc; -7; sizes.values]?,
+        deltas: vec![in alloc; GlyphDelta::required(-7, -7); sizes.deltas]?,
+        counts: Vec::new(alloc),
+    })
 }
 
 // Count cells as a count of so many peaks leaves them, all of them different up to 65,536.
