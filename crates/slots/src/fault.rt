@@ -126,13 +126,19 @@ impl fmt::Display for EntryFault {
 
 impl Error for EntryFault {}
 
-// What is at fault, with the entry concerned, or number and place.
+// What is at fault, with the entry concerned, or the number, the entry as far as one is concerned, and the place.
 impl fmt::Display for SlotFault {
     fn fmt<W: fmt::Write>(&self, f: &mut fmt::Formatter<W>) -> fmt::Result {
         match self {
             SlotFault::Shared(fault) => write!(f, "{fault}"),
             SlotFault::InEntry(variation, fault) => write!(f, "variation {variation}: {fault}"),
-            _ => write!(f, "refused {} slot place {}", self.number(), self.place()),
+            _ => {
+                write!(f, "refused {} slot", self.number())?;
+                if let Some(variation) = self.variation() {
+                    write!(f, " variation {variation}")?;
+                }
+                write!(f, " place {}", self.place())
+            }
         }
     }
 }
